@@ -1,0 +1,66 @@
+-- The sixteen refusals by document 01's numbers and names. (01, The refusals)
+use Prim.Native.Nat.{ℕ}
+
+-- the sheet is over the limit
+abbrev pub TOO-LONG : ℕ
+TOO-LONG = 1
+
+-- under 452 bytes; under 32 left for a record; a total length past the end
+abbrev pub SHORT : ℕ
+SHORT = 2
+
+-- an identifier differs
+abbrev pub NOT-SXF : ℕ
+NOT-SXF = 3
+
+-- a fixed length or the edition differs
+abbrev pub EDITION : ℕ
+EDITION = 4
+
+-- the sum differs
+abbrev pub SUM : ℕ
+SUM = 5
+
+-- a text field is not zero-ended and zero-filled; a closing zero is missing
+abbrev pub TEXT : ℕ
+TEXT = 6
+
+-- a value that is not allowed at a flag, code or reserved field
+abbrev pub RESERVED : ℕ
+RESERVED = 7
+
+-- a feature later than the setting
+abbrev pub TOO-NEW : ℕ
+TOO-NEW = 8
+
+-- binding vector or graphics bit
+abbrev pub NOT-CARRIED : ℕ
+NOT-CARRIED = 9
+
+-- a length that is too small, does not fit or leaves bytes over
+abbrev pub LENGTH : ℕ
+LENGTH = 10
+
+-- the word at +24 is too small under the mark; N1 is not 0 without it
+abbrev pub COUNT : ℕ
+COUNT = 11
+
+-- an item's unknown type, bad scale, or bad length of type 128
+abbrev pub SEMANTIC : ℕ
+SEMANTIC = 12
+
+-- bytes after the last record
+abbrev pub LEFT-OVER : ℕ
+LEFT-OVER = 13
+
+-- a record table that is none
+abbrev pub TABLE : ℕ
+TABLE = 14
+
+-- a lent output is too small
+abbrev pub ROOM : ℕ
+ROOM = 15
+
+-- the setting is not one of nine, or the record number is not below the count
+abbrev pub ASK : ℕ
+ASK = 16
