@@ -1,4 +1,5 @@
-// What the library answers. The definitions (specs/) say which answer is given when; nothing here runs.
+// What the library answers: the types of its answers, and beside them (specs/) the definitions of document 01 that say which answer
+// is given when. Nothing here runs, and nothing is relied on. Every contract of the crates above cites these definitions.
 
 // One named refusal: document 01's number, the place (a byte of the sheet, or an index of the table), and the year, which is 0
 // except for TOO NEW.
@@ -6,4 +7,142 @@ pub struct Refusal {
     pub number: u32,
     pub place: usize,
     pub year: u32,
+}
+
+// What an accepted sheet has: its sum, its count of records, and the lengths of the three outputs of unfolding it.
+pub struct Sizes {
+    pub sum: u32,
+    pub records: u32,
+    pub numbers: usize,
+    pub elements: usize,
+    pub bytes: usize,
+}
+
+// A sheet is checked, or unfolded.
+pub enum Checked {
+    Accepted(Sizes),
+    Refused(Refusal),
+}
+
+// One record: where it starts, its total length, its eight numbers, and its first part's points.
+pub struct RecordAt {
+    pub place: usize,
+    pub total: usize,
+    pub code: u32,
+    pub in_group: u16,
+    pub group: u16,
+    pub reference: u32,
+    pub generalisation: u8,
+    pub word: u32,
+    pub parts: u32,
+    pub items: usize,
+    pub points: u32,
+}
+
+// A record is asked for by its number.
+pub enum Found {
+    Record(RecordAt),
+    Refused(Refusal),
+}
+
+// The head of a sheet, as the writer takes it: the lengths of the four texts, which start at 16, 28, 64 and 408, and the scale. The
+// carried bytes are the 304 from 96 on and the four at 444.
+pub struct HeadAt {
+    pub date: usize,
+    pub designation: usize,
+    pub scale: u32,
+    pub title: usize,
+    pub designation2: usize,
+}
+
+pub enum Headed {
+    Head(HeadAt),
+    Refused(Refusal),
+}
+
+// A sheet is written: so many bytes.
+pub enum Written {
+    Length(usize),
+    Refused(Refusal),
+}
+
+// The unit of a sheet's coordinates; a real sheet of unknown unit keeps the byte that says so.
+pub enum SheetUnit {
+    DevicePoints,
+    Metres,
+    Radians,
+    Degrees,
+    Unknown(u8),
+}
+
+pub enum UnitAnswer {
+    Unit(SheetUnit),
+    Refused(Refusal),
+}
+
+// An element as stored: an integer of two or four bytes, or a floating number of four or eight.
+pub enum Stored {
+    Short(u16),
+    Long(u32),
+    Single(u32),
+    Double(u64),
+}
+
+// What an element stands for. A floating element that is no number (NaN) keeps its bits.
+pub enum Number {
+    Whole(i64),
+    Single(f32),
+    Double(f64),
+    NotNumber(u64),
+}
+
+// The eight plane corners as stored: south-west, north-west, north-east, south-east.
+pub struct CornerBits {
+    pub sw_x: u64,
+    pub sw_y: u64,
+    pub nw_x: u64,
+    pub nw_y: u64,
+    pub ne_x: u64,
+    pub ne_y: u64,
+    pub se_x: u64,
+    pub se_y: u64,
+}
+
+// The same as doubles.
+pub struct PlaneCorners {
+    pub sw_x: f64,
+    pub sw_y: f64,
+    pub nw_x: f64,
+    pub nw_y: f64,
+    pub ne_x: f64,
+    pub ne_y: f64,
+    pub se_x: f64,
+    pub se_y: f64,
+}
+
+pub enum Corners {
+    Doubles(PlaneCorners),
+    // One is no number: the place of the first that is none, and all eight as stored.
+    Bits(usize, CornerBits),
+    Refused(Refusal),
+}
+
+// The visibility of a generalisation byte: none set, or the denominators of its lower and upper bound.
+pub enum Visibility {
+    Unset,
+    Bounds(u32, u32),
+}
+
+// whole × 10 ^ power
+pub struct Decimal {
+    pub whole: i64,
+    pub power: i64,
+}
+
+// The value of a semantic item as a number.
+pub enum SemanticValue {
+    Number(Decimal),
+    // The item's type has no such number.
+    Other(u8),
+    Refused(Refusal),
 }

@@ -1,0 +1,1 @@
+// The theorems about the definitions of `layout`. Nothing here runs.

@@ -1,0 +1,66 @@
+-- Reading, unfolding, one record, and writing, at a setting. (01, Order: "setting, TOO LONG, [..] then LEFT OVER, then a record number
+-- asked for, then ROOM")
+use Prim.Native.Nat.{ℕ, zero, suc, _+_}
+use mathlib.Core.Bool.{Bool, cond}
+use mathlib.Core.List.{List, [], _∷_}
+use lib.Dec.{leb}
+use lib.ListN.{length}
+use Rattle.layout.specs.Layout.Encode.{encodeRecord, encode}
+use Rattle.layout.specs.Reading.Sheets.{start, sheetWalk}
+use Rattle.layout.specs.Refusals.{ROOM, ASK}
+use Rattle.layout.specs.Sheet.{Record, Head, Sheet, Table}
+use Rattle.layout.specs.Walk.{Answer, given, refused, answer, upTo}
+use Rattle.layout.specs.Writing.Sheets.{tableWalk}
+use Rattle.layout.specs.Writing.Tables.{flatten}
+use Rattle.layout.specs.Years.{isSetting}
+
+-- an answer made from another, unless that is a refusal
+abbrev pub andThen : {A B : Type 0} → Answer A → (A → Answer B) → Answer B
+andThen (given a) f = f a
+andThen (refused number place year) f = refused number place year
+
+-- "ASK: setting not one of nine [..]; place 0"
+abbrev pub atSetting : {A : Type 0} → ℕ → Answer A → Answer A
+atSetting year a = cond (isSetting year) a (refused ASK 0 0)
+
+unfoldable pub reading : ℕ → List ℕ → Answer Sheet
+reading year s = atSetting year (answer (upTo year) (sheetWalk s))
+
+-- how much is lent for numbers, elements and bytes
+pub record Rooms : Type 0 where
+  pub numbers : ℕ
+  pub elements : ℕ
+  pub bytes : ℕ
+
+-- "Unfolding a sheet fills these three; ROOM has place 1, 2 or 3 for the first too small." (01, The record table)
+abbrev pub inRooms : Rooms → Table → Answer Table
+inRooms rooms t =
+    cond (leb (length (t .numbers)) (rooms .numbers))
+    (cond (leb (length (t .elements)) (rooms .elements))
+    (cond (leb (length (t .bytes)) (rooms .bytes)) (given t) (refused ROOM 3 0))
+    (refused ROOM 2 0))
+    (refused ROOM 1 0)
+
+unfoldable pub unfolded : ℕ → List ℕ → Rooms → Answer Table
+unfolded year s rooms = andThen (reading year s) (λ t. inRooms rooms (flatten (t .records)))
+
+-- a record and where it starts
+pub record Place : Type 0 where
+  pub place : ℕ
+  pub it : Record
+
+-- the record of a number, from 0, where the first starts at a place; "ASK: [..] record number not below the count; place 0"
+abbrev pub recordOf : ℕ → List Record → ℕ → Answer Place
+recordOf place [] number = refused ASK 0 0
+recordOf place (r ∷ rs) zero = given (record { place = place; it = r })
+recordOf place (r ∷ rs) (suc number) = recordOf (place + length (encodeRecord r)) rs number
+
+-- "A record asked for by number, from 0, answers place, total length, its eight numbers and its first part's points."
+unfoldable pub asked : ℕ → List ℕ → ℕ → Answer Place
+asked year s number = andThen (reading year s) (λ t. recordOf start (t .records) number)
+
+-- "ROOM: a lent output too small; place 0 unless said"
+unfoldable pub written : ℕ → Head → Table → ℕ → Answer (List ℕ)
+written year h t room =
+    atSetting year
+    (andThen (answer (upTo year) (tableWalk h t)) (λ u. cond (leb (length (encode u)) room) (given (encode u)) (refused ROOM 0 0)))

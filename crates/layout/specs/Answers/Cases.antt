@@ -1,0 +1,80 @@
+-- Each case of an answer, with document 01's number and values.
+use Prim.Native.Nat.{ℕ, _+_}
+use mathlib.Core.List.{List}
+use lib.ListN.{length}
+use Rattle.layout.specs.Answers.Calls.{Place}
+use Rattle.layout.specs.Layout.Encode.{encodeRecord, sheetSum}
+use Rattle.layout.specs.Shared.Row.{referenceNumber}
+use Rattle.layout.specs.Sheet.{Record, Head, Sheet, Table}
+use Rattle.layout.specs.Walk.{Answer, given, refused}
+use Rattle.layout.specs.Writing.Tables.{flatten}
+use Rattle.layout.specs.declared.Checked.{Checked}
+use Rattle.layout.specs.declared.Checked.the-variants as Check
+use Rattle.layout.specs.declared.Found.{Found}
+use Rattle.layout.specs.declared.Found.the-variants as Find
+use Rattle.layout.specs.declared.HeadAt.{HeadAt}
+use Rattle.layout.specs.declared.Headed.{Headed}
+use Rattle.layout.specs.declared.Headed.the-variants as Heads
+use Rattle.layout.specs.declared.RecordAt.{RecordAt}
+use Rattle.layout.specs.declared.Refusal.{Refusal}
+use Rattle.layout.specs.declared.Sizes.{Sizes}
+use Rattle.layout.specs.declared.Written.{Written}
+use Rattle.layout.specs.declared.Written.the-variants as Write
+
+abbrev pub refusal : ℕ → ℕ → ℕ → Refusal
+refusal number place year = record { number = number; place = place; year = year }
+
+-- what an accepted sheet has
+abbrev pub sizesOf : Sheet → Sizes
+sizesOf t =
+    let u : Table = flatten (t .records) in
+    record {
+      sum = sheetSum t;
+      records = length (t .records);
+      numbers = length (u .numbers);
+      elements = length (u .elements);
+      bytes = length (u .bytes);
+    }
+
+unfoldable pub checkedOf : Answer Sheet → Checked
+checkedOf (given t) = Check.Accepted (sizesOf t)
+checkedOf (refused number place year) = Check.Refused (refusal number place year)
+
+abbrev pub recordAt : Place → RecordAt
+recordAt p =
+    let r : Record = p .it in
+    record {
+      place = p .place;
+      total = length (encodeRecord r);
+      code = r .code;
+      «in_group» = r .inGroup;
+      group = r .group;
+      reference = referenceNumber (r .reference);
+      generalisation = r .generalisation;
+      word = r .word;
+      parts = 1 + length (r .subobjects);
+      items = length (r .items);
+      points = r .first .points;
+    }
+
+unfoldable pub foundOf : Answer Place → Found
+foundOf (given p) = Find.Record (recordAt p)
+foundOf (refused number place year) = Find.Refused (refusal number place year)
+
+abbrev pub headAt : Head → HeadAt
+headAt h =
+    record {
+      date = length (h .date);
+      designation = length (h .designation);
+      scale = h .scale;
+      title = length (h .title);
+      designation2 = length (h .designation2);
+    }
+
+unfoldable pub headedOf : Answer Sheet → Headed
+headedOf (given t) = Heads.Head (headAt (t .head))
+headedOf (refused number place year) = Heads.Refused (refusal number place year)
+
+unfoldable pub writtenOf : Answer (List ℕ) → Written
+writtenOf (given s) = Write.Length (length s)
+writtenOf (refused number place year) = Write.Refused (refusal number place year)

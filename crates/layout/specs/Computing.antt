@@ -1,0 +1,24 @@
+-- A proof that computes with the definitions says `unfolding computing`: the walks, the layout and the answers then unfold.
+use Rattle.layout.specs.Answers.Calls.{reading, unfolded, asked, written}
+use Rattle.layout.specs.Answers.Cases.{checkedOf, foundOf, headedOf, writtenOf}
+use Rattle.layout.specs.Answers.Corners.{cornersOf}
+use Rattle.layout.specs.Answers.Units.{unitOf, numberOf}
+use Rattle.layout.specs.Answers.Values.{semanticValue}
+use Rattle.layout.specs.Layout.Encode.{encodeItem, encodeText, encodePart, encodeSubobject, encodeMetric, encodeSemantics, encodeHeader, encodeRecord, encodeHead, encodeWith, sheetSum, encode}
+use Rattle.layout.specs.Layout.Uses.{itemYears, recordYears, years}
+use Rattle.layout.specs.Reading.Items.{itemChecks, itemWalk}
+use Rattle.layout.specs.Reading.Parts.{textWalk, partWalk, subobjectWalk, metricWalk}
+use Rattle.layout.specs.Reading.Records.{lengthChecks, countChecks, headerWalk, bodyWalk, recordWalk}
+use Rattle.layout.specs.Reading.Sheets.{sizeChecks, passportChecks, descriptorChecks, reservedChecks, sheetWalk}
+use Rattle.layout.specs.Shared.Carried.{restChecks, carriedChecks}
+use Rattle.layout.specs.Shared.Reference.{byte20, byte21, byte22, referenceChecks}
+use Rattle.layout.specs.Shared.Visibility.{visibilityOf}
+use Rattle.layout.specs.Writing.Items.{itemRules, takeItem}
+use Rattle.layout.specs.Writing.Parts.{firstRules, laterRules, elementRules, textRules, takePart}
+use Rattle.layout.specs.Writing.Rows.{roomRules, nameRules, countRules, rowRules, takeInside, rowWalk, endRules, rowsWalk}
+use Rattle.layout.specs.Writing.Sheets.{titleRules, headWalk, limitRules, tableWalk}
+use Rattle.layout.specs.Writing.Tables.{flattenHeader, flattenPart, flattenItem, flattenRecord, flatten}
+
+unfoldable pub computing : Unit {0}
+unfolding restChecks carriedChecks byte20 byte21 byte22 referenceChecks visibilityOf itemChecks itemWalk textWalk partWalk subobjectWalk metricWalk lengthChecks countChecks headerWalk bodyWalk recordWalk sizeChecks passportChecks descriptorChecks reservedChecks sheetWalk encodeItem encodeText encodePart encodeSubobject encodeMetric encodeSemantics encodeHeader encodeRecord encodeHead encodeWith sheetSum encode itemYears recordYears years flattenHeader flattenPart flattenItem flattenRecord flatten itemRules takeItem firstRules laterRules elementRules textRules takePart roomRules nameRules countRules rowRules takeInside rowWalk endRules rowsWalk titleRules headWalk limitRules tableWalk reading unfolded asked written checkedOf foundOf headedOf writtenOf cornersOf unitOf numberOf semanticValue
+computing = tt
