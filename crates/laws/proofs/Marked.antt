@@ -1,17 +1,17 @@
 -- The cases that document 01 marks with (*), shown of the definitions by one theorem over a list of them. (01, Sheets to try)
 use Prim.Native.Nat.{ℕ}
-use mathlib.Core.List.{List, [], _∷_, _++_}
+use mathlib.Core.List.{List, [], _∷_}
 use mathlib.Core.Path.{_≡_, refl}
 use lib.ListN.{length, take, replicate}
-use Rattle.layout.specs.Answers.Calls.{andThen, reading, unfolded, Rooms, written}
+use Rattle.layout.specs.Answers.Calls.{unfolded, written}
 use Rattle.layout.specs.Bytes.{All}
 use Rattle.layout.specs.Computing.{computing}
 use Rattle.layout.specs.Reading.Sheets.{sumOf}
 use Rattle.layout.specs.Refusals.{SHORT, SUM, TEXT, TOO-NEW, ASK}
 use Rattle.layout.specs.Shared.Visibility.{visibility}
-use Rattle.layout.specs.Sheet.{Head, Sheet, Table}
+use Rattle.layout.specs.Sheet.{Head, Table}
 use Rattle.layout.specs.Walk.{Answer, given, refused}
-use Rattle.layout.specs.Writing.Tables.{flatten, table}
+use Rattle.layout.specs.Writing.Tables.{table}
 use Rattle.layout.specs.declared.Visibility.{Visibility}
 use Rattle.layout.specs.declared.Visibility.the-variants.{Unset, Bounds}
 use Rattle.laws.proofs.Samples.{with, sheet, sheetE, sheetP, sheetQ, sheetM, headOf}

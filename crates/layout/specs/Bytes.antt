@@ -5,7 +5,7 @@ use mathlib.Core.Bool.{Bool, true, false, not, _&&_}
 use mathlib.Core.List.{List, [], _∷_, _++_}
 use mathlib.Core.Path.{_≡_, refl}
 use lib.Dec.{eqb}
-use lib.ListN.{length, take, drop}
+use lib.ListN.{take, drop}
 
 abbrev pub All : {A : Type 0} → (A → Type 0) → List A → Type 0
 All P [] = Unit {0}
@@ -70,11 +70,11 @@ storedAll (w ∷ ws) [] = []
 storedAll (w ∷ ws) (v ∷ vs) = bytes w v ++ storedAll ws vs
 
 -- as many numbers as widths, each narrow enough for its own
-abbrev pub Fit : List ℕ → List ℕ → Type 0
-Fit [] [] = Unit {0}
-Fit [] (v ∷ vs) = ⊥
-Fit (w ∷ ws) [] = ⊥
-Fit (w ∷ ws) (v ∷ vs) = (v < 256 ^ w) × Fit ws vs
+abbrev pub FitAll : List ℕ → List ℕ → Type 0
+FitAll [] [] = Unit {0}
+FitAll [] (v ∷ vs) = ⊥
+FitAll (w ∷ ws) [] = ⊥
+FitAll (w ∷ ws) (v ∷ vs) = (v < 256 ^ w) × FitAll ws vs
 
 -- the widths ws, n times over
 abbrev pub repeat : ℕ → List ℕ → List ℕ

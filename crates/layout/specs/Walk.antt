@@ -1,7 +1,7 @@
 -- A walk: what a reader comes upon in a sheet, in order, and how it comes out. It knows no setting.
 -- The writer's walk over a record table is of the same kind.
 use Prim.Native.Nat.{ℕ, zero, suc, _+_}
-use mathlib.Core.Bool.{Bool, true, false, cond}
+use mathlib.Core.Bool.{Bool, true, cond}
 use mathlib.Core.List.{List, [], _∷_}
 use mathlib.Core.Path.{_≡_}
 use lib.Dec.{leb}

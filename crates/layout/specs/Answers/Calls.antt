@@ -1,7 +1,7 @@
 -- Reading, unfolding, one record, and writing, at a setting. (01, Order: "setting, TOO LONG, [..] then LEFT OVER, then a record number
 -- asked for, then ROOM")
 use Prim.Native.Nat.{ℕ, zero, suc, _+_}
-use mathlib.Core.Bool.{Bool, cond}
+use mathlib.Core.Bool.{cond}
 use mathlib.Core.List.{List, [], _∷_}
 use lib.Dec.{leb}
 use lib.ListN.{length}
@@ -45,18 +45,18 @@ unfoldable pub unfolded : ℕ → List ℕ → Rooms → Answer Table
 unfolded year s rooms = andThen (reading year s) (λ t. inRooms rooms (flatten (t .records)))
 
 -- a record and where it starts
-pub record Place : Type 0 where
+pub record Placed : Type 0 where
   pub place : ℕ
-  pub it : Record
+  pub value : Record
 
 -- the record of a number, from 0, where the first starts at a place; "ASK: [..] record number not below the count; place 0"
-abbrev pub recordOf : ℕ → List Record → ℕ → Answer Place
+abbrev pub recordOf : ℕ → List Record → ℕ → Answer Placed
 recordOf place [] number = refused ASK 0 0
-recordOf place (r ∷ rs) zero = given (record { place = place; it = r })
+recordOf place (r ∷ rs) zero = given (record { place = place; value = r })
 recordOf place (r ∷ rs) (suc number) = recordOf (place + length (encodeRecord r)) rs number
 
 -- "A record asked for by number, from 0, answers place, total length, its eight numbers and its first part's points."
-unfoldable pub asked : ℕ → List ℕ → ℕ → Answer Place
+unfoldable pub asked : ℕ → List ℕ → ℕ → Answer Placed
 asked year s number = andThen (reading year s) (λ t. recordOf start (t .records) number)
 
 -- "ROOM: a lent output too small; place 0 unless said"

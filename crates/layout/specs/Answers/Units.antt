@@ -1,9 +1,8 @@
 -- The unit of a sheet, and what an element stands for. (01, Passport)
 use Prim.Native.Nat.{ℕ, _/_, _^_}
 use mathlib.Core.Bool.{Bool, true, false, cond, not, _||_}
-use mathlib.Core.List.{List, [], _∷_}
 use mathlib.Core.Path.{_≡_, refl}
-use lib.Dec.{eqb, leb, ltb}
+use lib.Dec.{eqb, leb}
 use lib.Ieee.{binary32, binary64, nanBits, ofBits}
 use lib.IntN.{ℤ, pos, negsuc, _-ℤ_}
 use Rattle.layout.specs.Bytes.{Field, numberIn, bits}

@@ -10,11 +10,11 @@ abbrev pub identifier-is : ℕ
 identifier-is = 0x00544144
 
 -- "404 length 52"
-abbrev pub size : Field
-size = field 404 4
+abbrev pub ownLength : Field
+ownLength = field 404 4
 
-abbrev pub size-is : ℕ
-size-is = 52
+abbrev pub ownLength-is : ℕ
+ownLength-is = 52
 
 -- "408 designation, 32"
 abbrev pub designation : Field

@@ -10,11 +10,11 @@ abbrev pub identifier-is : ℕ
 identifier-is = 0x00465853
 
 -- "+4 length 400"
-abbrev pub size : Field
-size = field 4 4
+abbrev pub ownLength : Field
+ownLength = field 4 4
 
-abbrev pub size-is : ℕ
-size-is = 400
+abbrev pub ownLength-is : ℕ
+ownLength-is = 400
 
 -- "+8 edition 0x00040000"
 abbrev pub edition : Field

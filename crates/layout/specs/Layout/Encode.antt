@@ -68,7 +68,7 @@ encodeRecord r = encodeHeader r (length (encodeMetric r)) (length (encodeSemanti
 unfoldable pub encodeHead : Head → ℕ → ℕ → List ℕ
 encodeHead h sum count =
     stored Passport.identifier Passport.identifier-is
-    ++ stored Passport.size Passport.size-is
+    ++ stored Passport.ownLength Passport.ownLength-is
     ++ stored Passport.edition Passport.edition-is
     ++ stored Passport.sum sum
     ++ padded Passport.date (h .date)
@@ -77,7 +77,7 @@ encodeHead h sum count =
     ++ padded Passport.title (h .title)
     ++ h .rest
     ++ stored Descriptor.identifier Descriptor.identifier-is
-    ++ stored Descriptor.size Descriptor.size-is
+    ++ stored Descriptor.ownLength Descriptor.ownLength-is
     ++ padded Descriptor.designation (h .designation2)
     ++ stored Descriptor.count count
     ++ h .carried

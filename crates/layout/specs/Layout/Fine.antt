@@ -5,7 +5,7 @@ use mathlib.Core.List.{List, []}
 use mathlib.Core.Path.{_≡_}
 use lib.Dec.{eqb}
 use lib.ListN.{length}
-use Rattle.layout.specs.Bytes.{All, Bytes, Field, Fit, repeat, some, agree}
+use Rattle.layout.specs.Bytes.{All, Bytes, Field, FitAll, repeat, some, agree}
 use Rattle.layout.specs.Fields.{limit}
 use Rattle.layout.specs.Fields.Descriptor
 use Rattle.layout.specs.Fields.Header
@@ -14,7 +14,7 @@ use Rattle.layout.specs.Fields.Passport
 use Rattle.layout.specs.Fields.Subobject
 use Rattle.layout.specs.Layout.Encode.{encodeRecord, encode}
 use Rattle.layout.specs.Shared.Carried.{restChecks, carriedChecks}
-use Rattle.layout.specs.Shared.Mark.{takesMark, n1Of, n2Of}
+use Rattle.layout.specs.Shared.Mark.{takesMark, n1Of}
 use Rattle.layout.specs.Shared.Reference.{referenceChecks, semantics, textInMetric}
 use Rattle.layout.specs.Shared.Texts.{FineText}
 use Rattle.layout.specs.Shared.Types.{kindOf, isKnown, goodScale, valueLength, goodLength, isClosed}
@@ -49,7 +49,7 @@ FineLabel true t = (length t < 256) × Bytes t
 
 -- a part of a record whose reference bytes are r
 pub record FinePart (r : Reference) (a : Part) : Type 0 where
-  pub elements : Fit (repeat (a .points) (widths r)) (a .elements)
+  pub elements : FitAll (repeat (a .points) (widths r)) (a .elements)
   pub label : FineLabel (textInMetric r) (a .text)
 
 -- "With the mark its count is N2 + 65536 × N1. Without it N1 must be 0."

@@ -1,7 +1,7 @@
 -- A record: its header, its metric and its semantics. (01, Record and Order: "each record: 32 bytes left, identifier, lengths, bytes
 -- 20 to 22, points, word at +24, each metric part [..], metric end, semantics flag, each item [..]")
 use Prim.Native.Nat.{ℕ, _+_, _-_}
-use mathlib.Core.Bool.{Bool, not, _||_}
+use mathlib.Core.Bool.{not, _||_}
 use mathlib.Core.List.{List, [], _∷_}
 use lib.Dec.{eqb, leb}
 use lib.ListN.{length, take, drop}
@@ -13,7 +13,7 @@ use Rattle.layout.specs.Refusals.{SHORT, NOT-SXF, LENGTH, COUNT}
 use Rattle.layout.specs.Shared.Mark.{mark, isMark, firstCount}
 use Rattle.layout.specs.Shared.Reference.{referenceChecks, semantics}
 use Rattle.layout.specs.Sheet.{Reference, Record}
-use Rattle.layout.specs.Walk.{Walk, Check, must, dated, checks, _>>=_, _>>_, ends, Reader, Piece, piece, fill}
+use Rattle.layout.specs.Walk.{Walk, Check, must, dated, checks, _>>=_, _>>_, ends, Reader, piece, fill}
 use Rattle.layout.specs.Years.{since, mark-65535}
 
 -- what stands in the header of a record

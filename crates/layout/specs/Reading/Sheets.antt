@@ -35,7 +35,7 @@ fixed f value refusal s = must (eqb (numberIn f s) value) refusal (f .place)
 unfoldable pub passportChecks : List ℕ → List Check
 passportChecks s =
     fixed Passport.identifier Passport.identifier-is NOT-SXF s
-    ∷ fixed Passport.size Passport.size-is EDITION s
+    ∷ fixed Passport.ownLength Passport.ownLength-is EDITION s
     ∷ fixed Passport.edition Passport.edition-is EDITION s
     ∷ fixed Passport.sum (sumOf s) SUM s
     ∷ textField Passport.date s
@@ -47,7 +47,7 @@ passportChecks s =
 unfoldable pub descriptorChecks : List ℕ → List Check
 descriptorChecks s =
     fixed Descriptor.identifier Descriptor.identifier-is NOT-SXF s
-    ∷ fixed Descriptor.size Descriptor.size-is EDITION s
+    ∷ fixed Descriptor.ownLength Descriptor.ownLength-is EDITION s
     ∷ textField Descriptor.designation s
     ∷ []
 

@@ -1,6 +1,6 @@
 -- The mark and the counts of points. (01, Record)
 use Prim.Native.Nat.{ℕ, _+_, _*_, _/_, _%_}
-use mathlib.Core.Bool.{Bool, true, false, cond}
+use mathlib.Core.Bool.{Bool, cond}
 use mathlib.Core.Path.{_≡_, refl}
 use lib.Dec.{eqb, leb}
 

@@ -1,7 +1,7 @@
 -- The reference bytes 20 to 22 of a record: what each bit says, and the checks on them. (01, Record)
 -- The checks take their places, for the reader has three (the bytes) and the writer one (the reference number's index).
 use Prim.Native.Nat.{ℕ}
-use mathlib.Core.Bool.{Bool, true, false, not, _&&_, _||_}
+use mathlib.Core.Bool.{Bool, not, _&&_, _||_}
 use mathlib.Core.List.{List, [], _∷_, _++_}
 use mathlib.Core.Path.{_≡_, refl}
 use lib.Dec.{eqb, leb}

@@ -2,7 +2,7 @@
 --   "Visibility byte: lower bound is the low four bits, upper is 15 minus the high four. 0xFF means unset and has no bounds. Tables 4
 --   and 5 of 000 give sixteen denominators each."
 use Prim.Native.Nat.{ℕ, _-_}
-use mathlib.Core.Bool.{Bool, true, false, cond}
+use mathlib.Core.Bool.{cond}
 use mathlib.Core.List.{List, [], _∷_}
 use mathlib.Core.Path.{_≡_, refl}
 use lib.Dec.{eqb}

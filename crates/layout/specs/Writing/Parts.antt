@@ -32,10 +32,10 @@ unfoldable pub laterRules : Bool → ℕ → List Check
 laterRules marked points = fitsField Header.word points Row.points ∷ must (marked || eqb (n1Of points) 0) COUNT Row.points ∷ []
 
 -- there is an element for each width, and none is too wide for its own
-abbrev pub fits : List ℕ → List ℕ → Bool
-fits [] es = true
-fits (w ∷ ws) [] = false
-fits (w ∷ ws) (e ∷ es) = ltb e (256 ^ w) && fits ws es
+abbrev pub fitAll : List ℕ → List ℕ → Bool
+fitAll [] es = true
+fitAll (w ∷ ws) [] = false
+fitAll (w ∷ ws) (e ∷ es) = ltb e (256 ^ w) && fitAll ws es
 
 -- how many elements so many points have
 abbrev pub elementCount : Reference → ℕ → ℕ
@@ -45,7 +45,7 @@ elementCount r points = points * length (widths r)
 unfoldable pub elementRules : Reference → ℕ → List ℕ → List Check
 elementRules r points es =
     must (leb (elementCount r points) (length es)) TABLE Row.points
-    ∷ must (fits (repeat points (widths r)) es) TABLE Row.points
+    ∷ must (fitAll (repeat points (widths r)) es) TABLE Row.points
     ∷ []
 
 -- "TABLE: a number too large for its field, [..] text length without the text bit, [..] a byte pool that ends early (the text length

@@ -1,6 +1,6 @@
 -- The writer's checks on a record's row, and the rows up to the table's end. (01, The record table)
 use Prim.Native.Nat.{ℕ, zero, suc, _+_, _-_, _*_, _^_}
-use mathlib.Core.Bool.{Bool, not, _&&_}
+use mathlib.Core.Bool.{not, _&&_}
 use mathlib.Core.List.{List, [], _∷_}
 use lib.Dec.{leb, ltb}
 use lib.ListN.{length, drop}
@@ -14,7 +14,7 @@ use Rattle.layout.specs.Sheet.{Reference, Record, Table}
 use Rattle.layout.specs.Walk.{Walk, Check, must, checks, _>>=_, _>>_, ends}
 use Rattle.layout.specs.Writing.Items.{fitsField, takeItem}
 use Rattle.layout.specs.Writing.Parts.{firstRules, laterRules, takePart}
-use Rattle.layout.specs.Writing.Tables.{table, Taken, taken, Taker, many}
+use Rattle.layout.specs.Writing.Tables.{table, taken, Taker, many}
 
 -- a row's eight numbers; the reference number is there whole and as its three bytes
 pub record RecordRow : Type 0 where

@@ -1,7 +1,6 @@
 -- The writer's walk over a head and a record table. (01, The record table)
 --   "It checks the setting, then those by place in the sheet (TEXT for a text too long or with a zero), then the table number by number,
 --   where place is the number's index. [..] Last TOO LONG, then ROOM."
-use Prim.Native.Nat.{ℕ}
 use mathlib.Core.List.{List, [], _∷_}
 use lib.Dec.{leb}
 use lib.ListN.{length}

@@ -1,7 +1,7 @@
 -- The record table of a sheet's records, and how pieces are taken from one. (01, The record table)
 use Prim.Native.Nat.{ℕ, zero, suc, _+_}
 use mathlib.Core.List.{List, [], _∷_, _++_}
-use lib.ListN.{length, drop}
+use lib.ListN.{length}
 use Rattle.layout.specs.Shared.Row.{referenceNumber}
 use Rattle.layout.specs.Sheet.{Item, Part, Record, Table}
 use Rattle.layout.specs.Walk.{Walk, _>>=_, ends}

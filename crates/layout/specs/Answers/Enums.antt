@@ -2,7 +2,9 @@
 use Prim.Native.Nat.{ℕ, _+_}
 use mathlib.Core.List.{List}
 use lib.ListN.{length}
-use Rattle.layout.specs.Answers.Calls.{Place}
+use Rattle.layout.specs.Answers.Calls.{Placed}
+use Rattle.layout.specs.Answers.Corners.{planeCorners}
+use Rattle.layout.specs.Answers.Units.{sheetUnit}
 use Rattle.layout.specs.Layout.Encode.{encodeRecord, sheetSum}
 use Rattle.layout.specs.Shared.Row.{referenceNumber}
 use Rattle.layout.specs.Sheet.{Record, Head, Sheet, Table}
@@ -10,6 +12,8 @@ use Rattle.layout.specs.Walk.{Answer, given, refused}
 use Rattle.layout.specs.Writing.Tables.{flatten}
 use Rattle.layout.specs.declared.Checked.{Checked}
 use Rattle.layout.specs.declared.Checked.the-variants as Check
+use Rattle.layout.specs.declared.Corners.{Corners}
+use Rattle.layout.specs.declared.Corners.the-variants as Corner
 use Rattle.layout.specs.declared.Found.{Found}
 use Rattle.layout.specs.declared.Found.the-variants as Find
 use Rattle.layout.specs.declared.HeadAt.{HeadAt}
@@ -18,6 +22,8 @@ use Rattle.layout.specs.declared.Headed.the-variants as Heads
 use Rattle.layout.specs.declared.RecordAt.{RecordAt}
 use Rattle.layout.specs.declared.Refusal.{Refusal}
 use Rattle.layout.specs.declared.Sizes.{Sizes}
+use Rattle.layout.specs.declared.UnitAnswer.{UnitAnswer}
+use Rattle.layout.specs.declared.UnitAnswer.the-variants as Unit-of
 use Rattle.layout.specs.declared.Written.{Written}
 use Rattle.layout.specs.declared.Written.the-variants as Write
 
@@ -40,9 +46,9 @@ unfoldable pub checkedOf : Answer Sheet → Checked
 checkedOf (given t) = Check.Accepted (sizesOf t)
 checkedOf (refused number place year) = Check.Refused (refusal number place year)
 
-abbrev pub recordAt : Place → RecordAt
+abbrev pub recordAt : Placed → RecordAt
 recordAt p =
-    let r : Record = p .it in
+    let r : Record = p .value in
     record {
       place = p .place;
       total = length (encodeRecord r);
@@ -57,7 +63,7 @@ recordAt p =
       points = r .first .points;
     }
 
-unfoldable pub foundOf : Answer Place → Found
+unfoldable pub foundOf : Answer Placed → Found
 foundOf (given p) = Find.Record (recordAt p)
 foundOf (refused number place year) = Find.Refused (refusal number place year)
 
@@ -78,3 +84,11 @@ headedOf (refused number place year) = Heads.Refused (refusal number place year)
 unfoldable pub writtenOf : Answer (List ℕ) → Written
 writtenOf (given s) = Write.Length (length s)
 writtenOf (refused number place year) = Write.Refused (refusal number place year)
+
+unfoldable pub unitIn : Answer Sheet → UnitAnswer
+unitIn (given t) = Unit-of.Unit (sheetUnit (t .head))
+unitIn (refused number place year) = Unit-of.Refused (refusal number place year)
+
+unfoldable pub cornersIn : Answer Sheet → Corners
+cornersIn (given t) = planeCorners (t .head)
+cornersIn (refused number place year) = Corner.Refused (refusal number place year)
