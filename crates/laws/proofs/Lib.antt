@@ -1,3 +1,4 @@
 -- The theorems about document 01's definitions.
 pub mod Samples
 pub mod Marked
+pub mod Cases

@@ -1,0 +1,5 @@
+-- Further cases, computed: each refusal that the reader and the writer can give, at its place, and the places past the first record,
+-- part and item, which no law about readings sees.
+pub mod Reading
+pub mod Writing
+pub mod Answers
