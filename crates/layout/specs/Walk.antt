@@ -41,6 +41,7 @@ outcome (ends a) = ends a
 outcome (stops number place) = stops number place
 outcome (meets place year w) = outcome w
 
+-- a feature that was met
 pub record Met : Type 0 where
   pub place : ℕ
   pub year : ℕ
@@ -51,7 +52,8 @@ met (ends a) = []
 met (stops number place) = []
 met (meets place year w) = record { place = place; year = year } ∷ met w
 
--- one walk after another
+-- One walk after another. In a `do` block each line is a walk that must come to its end before the next begins, and `x ← walk` names
+-- what it ended in.
 infixl 20 _>>=_
 infixl 20 _>>_
 abbrev pub _>>=_ : {A B : Type 0} → Walk A → (A → Walk B) → Walk B
@@ -115,9 +117,9 @@ fill one place xs = filling one (length xs) place xs
 
 -- one piece that takes all of the bytes; bytes left over are refused at the first of them
 abbrev pub whole : {A : Type 0} → ℕ → Reader A → ℕ → List ℕ → Walk A
-whole number one place xs = do
+whole refusal one place xs = do
   a ← one place xs
-  checks (place + a .size) (must (leb (length xs) (a .size)) number 0 ∷ [])
+  checks (place + a .size) (must (leb (length xs) (a .size)) refusal 0 ∷ [])
   ends (a .value)
 
 -- what a list of checks asks, and the years of what it comes upon

@@ -3,7 +3,7 @@
 use Prim.Native.Nat.{ℕ}
 use mathlib.Core.List.{List, [], _∷_, _++_}
 use mathlib.Core.Path.{_≡_, refl}
-use lib.Ieee.{nanBits}
+use lib.Ieee.{Float, binary64, nanBits, ofBits}
 use Rattle.layout.specs.Answers.Calls.{andThen, reading, unfolded, Rooms, asked, written}
 use Rattle.layout.specs.Answers.Enums.{checkedOf, foundOf, headedOf, unitIn, cornersIn}
 use Rattle.layout.specs.Computing.{computing}
@@ -44,14 +44,19 @@ found : foundOf (asked 2017 (sealed (sheet 0 3 (point 2 0 36 [] ++ point 2 0 36 
 unfolding computing
 found = refl
 
+abbrev zeroDouble : Float
+zeroDouble = ofBits binary64 0
+
 views : (unitIn (reading 2017 sheetE) ≡ Units.Unit Unit-is.DevicePoints)
     × (unitIn (reading 2017 (sealed (with 315 (0x80 ∷ []) (with 236 (65 ∷ []) sheetE)))) ≡ Units.Unit Unit-is.Degrees)
     × (unitIn (reading 2017 (sheet 796 0 [])) ≡ Units.Refused (record { number = 5; place = 12; year = 0 }))
+    × (cornersIn (reading 2017 (sealed (with 166 (0xF0 ∷ 0x3F ∷ []) sheetE)))
+    ≡ Corners.Doubles (record { «sw_x» = zeroDouble; «sw_y» = zeroDouble; «nw_x» = zeroDouble; «nw_y» = zeroDouble; «ne_x» = zeroDouble; «ne_y» = zeroDouble; «se_x» = zeroDouble; «se_y» = ofBits binary64 0x3FF0000000000000 }))
     -- the third corner is no number: its place, and all eight as stored
     × (cornersIn (reading 2017 (sealed (with 126 (0xF8 ∷ 0x7F ∷ []) sheetE)))
     ≡ Corners.Bits 120 (record { «sw_x» = 0; «sw_y» = 0; «nw_x» = 0x7FF8000000000000; «nw_y» = 0; «ne_x» = 0; «ne_y» = 0; «se_x» = 0; «se_y» = 0 }))
 unfolding computing nanBits
-views = (refl, refl, refl, refl)
+views = (refl, refl, refl, refl, refl)
 
 -- A label of two parts in three dimensions, of floating elements, with an item of each type: the header,
 abbrev rich : List ℕ

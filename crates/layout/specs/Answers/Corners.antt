@@ -1,5 +1,5 @@
 -- The eight plane corners. (01, Passport: "The eight plane corners are answered together as doubles, each with its stored bits.")
-use Prim.Native.Nat.{ℕ, _+_}
+use Prim.Native.Nat.{ℕ, _+_, _*_}
 use mathlib.Core.Bool.{cond}
 use mathlib.Core.List.{List, [], _∷_}
 use lib.Ieee.{Float, binary64, nanBits, ofBits}
@@ -11,21 +11,22 @@ use Rattle.layout.specs.declared.Corners.{Corners}
 use Rattle.layout.specs.declared.Corners.the-variants.{Doubles, Bits}
 use Rattle.layout.specs.declared.PlaneCorners.{PlaneCorners}
 
--- the double of a corner is the n-th of eight, from 0 (000, table 1: X and Y of the south-west, north-west, north-east, south-east)
+-- the stored bits of the n-th of eight doubles, from 0, in the rest of a passport
 abbrev pub cornerAt : ℕ → List ℕ → ℕ
-cornerAt place rest = numberIn (Passport.inRest (field place 8)) rest
+cornerAt n rest = numberIn (Passport.inRest (field (Passport.corners .place + 8 * n) 8)) rest
 
+-- X and Y of the south-west, north-west, north-east and south-east corner (000, table 1)
 abbrev pub cornerBits : List ℕ → CornerBits
 cornerBits rest =
     record {
-      «sw_x» = cornerAt 104 rest;
-      «sw_y» = cornerAt 112 rest;
-      «nw_x» = cornerAt 120 rest;
-      «nw_y» = cornerAt 128 rest;
-      «ne_x» = cornerAt 136 rest;
-      «ne_y» = cornerAt 144 rest;
-      «se_x» = cornerAt 152 rest;
-      «se_y» = cornerAt 160 rest;
+      «sw_x» = cornerAt 0 rest;
+      «sw_y» = cornerAt 1 rest;
+      «nw_x» = cornerAt 2 rest;
+      «nw_y» = cornerAt 3 rest;
+      «ne_x» = cornerAt 4 rest;
+      «ne_y» = cornerAt 5 rest;
+      «se_x» = cornerAt 6 rest;
+      «se_y» = cornerAt 7 rest;
     }
 
 abbrev double : ℕ → Float
