@@ -97,11 +97,15 @@ times (suc n) one place xs = do
   ends (piece (a .value ∷ more .value) (a .size + more .size))
 
 -- a piece, and then another
-abbrev pub pair : {A B : Type 0} → Reader A → Reader B → Reader (A × B)
-pair first second place xs = do
-  a ← first place xs
-  b ← second (place + a .size) (drop (a .size) xs)
-  ends (piece (a .value, b .value) (a .size + b .size))
+pub record Pair (A B : Type 0) : Type 0 where
+  pub first : A
+  pub second : B
+
+abbrev pub pair : {A B : Type 0} → Reader A → Reader B → Reader (Pair A B)
+pair one other place xs = do
+  a ← one place xs
+  b ← other (place + a .size) (drop (a .size) xs)
+  ends (piece (record { first = a .value; second = b .value }) (a .size + b .size))
 
 -- pieces up to the end of the bytes; there are at most `most`, for each takes a byte at least
 abbrev pub filling : {A : Type 0} → Reader A → ℕ → ℕ → List ℕ → Walk (List A)

@@ -11,7 +11,7 @@ use Rattle.layout.specs.Shared.Mark.{laterCount}
 use Rattle.layout.specs.Shared.Reference.{textInMetric}
 use Rattle.layout.specs.Shared.Widths.{widths, pointSize}
 use Rattle.layout.specs.Sheet.{Part, Reference}
-use Rattle.layout.specs.Walk.{Walk, must, checks, _>>=_, _>>_, ends, Reader, piece, times, pair, whole}
+use Rattle.layout.specs.Walk.{Walk, must, checks, _>>=_, _>>_, ends, Reader, piece, times, Pair, pair, whole}
 
 -- "With text, each part ends with a length byte L, L bytes and one zero. Padding inside L is kept."
 -- "LENGTH: [..] a length byte with text and closing byte [..] not fitting (its first byte)"; "TEXT: a closing zero missing"
@@ -42,5 +42,5 @@ subobjectWalk r marked place xs = do
   ends (piece (part .value) (Subobject.size + part .size))
 
 -- the metric: the first part, and so many subobjects. "LENGTH: [..] metric bytes left over (the first)"
-unfoldable pub metricWalk : Reference → Bool → ℕ → ℕ → ℕ → List ℕ → Walk (Part × List Part)
+unfoldable pub metricWalk : Reference → Bool → ℕ → ℕ → ℕ → List ℕ → Walk (Pair Part (List Part))
 metricWalk r marked count subobjects = whole LENGTH (pair (partWalk r count) (times subobjects (subobjectWalk r marked)))

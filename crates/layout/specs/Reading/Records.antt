@@ -71,15 +71,15 @@ headerWalk place left h = do
   checks place (referenceChecks (Field.byte20 .place) (Field.byte21 .place) (Field.byte22 .place) (h .reference))
   checks place (countChecks h)
 
--- the metric and the semantics of a record whose header is h, at the place where the metric starts
+-- the metric of a record whose header is h, at the place where it starts, and what comes after it in the record
 -- "Semantics fill the record after the metric; the flag is set exactly when there are such bytes."
 -- "LENGTH: [..] the semantics flag not agreeing with the bytes (end of the metric)"
 unfoldable pub bodyWalk : Header → ℕ → List ℕ → List ℕ → Walk Record
-bodyWalk h place metric rest = do
+bodyWalk h place metric after = do
   let end : ℕ = place + h .metric
   parts ← metricWalk (h .reference) (isMark (h .points)) (firstCount (h .points) (h .word)) (h .subobjects) place metric
-  checks end (must (agree (semantics (h .reference)) (some rest)) LENGTH 0 ∷ [])
-  items ← fill itemWalk end rest
+  checks end (must (agree (semantics (h .reference)) (some after)) LENGTH 0 ∷ [])
+  items ← fill itemWalk end after
   ends
       (record {
         code = h .code;
@@ -88,17 +88,27 @@ bodyWalk h place metric rest = do
         reference = h .reference;
         generalisation = h .generalisation;
         word = h .word;
-        first = parts .0;
-        subobjects = parts .1;
+        first = parts .first;
+        subobjects = parts .second;
         items = items;
       })
+
+-- the bytes of the metric, and those after it up to the record's end; xs are the bytes from the record's start on
+abbrev pub metricIn : Header → List ℕ → List ℕ
+metricIn h xs = take (h .metric) (drop Field.size xs)
+
+abbrev pub semanticsIn : Header → List ℕ → List ℕ
+semanticsIn h xs = take (h .total - Field.size - h .metric) (drop (h .metric) (drop Field.size xs))
+
+-- a record whose header is h
+unfoldable pub recordWith : Header → Reader Record
+recordWith h place xs = do
+  headerWalk place (length xs) h
+  r ← bodyWalk h (place + Field.size) (metricIn h xs) (semanticsIn h xs)
+  ends (piece r (h .total))
 
 -- "SHORT: [..] under 32 left for a record (its start)"
 unfoldable pub recordWalk : Reader Record
 recordWalk place xs = do
-  let h : Header = headerIn xs
-  let metric : List ℕ = drop Field.size xs
   checks place (must (leb Field.size (length xs)) SHORT 0 ∷ [])
-  headerWalk place (length xs) h
-  r ← bodyWalk h (place + Field.size) (take (h .metric) metric) (take (h .total - Field.size - h .metric) (drop (h .metric) metric))
-  ends (piece r (h .total))
+  recordWith (headerIn xs) place xs
