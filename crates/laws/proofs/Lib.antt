@@ -2,3 +2,7 @@
 pub mod Samples
 pub mod Marked
 pub mod Cases
+pub mod Base
+pub mod Encoding
+pub mod Reading
+pub mod Writing

@@ -1,0 +1,8 @@
+-- Laws that know nothing of sheets: lists, walks and their answers, readers, numbers, texts, rows of fields.
+pub mod Lists
+pub mod Walks
+pub mod Chains
+pub mod Readers
+pub mod Numbers
+pub mod Texts
+pub mod Rows

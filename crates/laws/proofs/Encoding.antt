@@ -1,0 +1,4 @@
+-- What is written of a fine sheet: it is bytes, so many of them, and their sum fits its field.
+pub mod Plain
+pub mod Lengths
+pub mod Sums

@@ -1,0 +1,291 @@
+-- A record is taken from a table exactly as it is flattened.
+use mathlib.Core.Bool.{Bool, true, false, not, _&&_, _||_}
+use mathlib.Core.List.{List, [], _∷_, _++_}
+use mathlib.Core.Logic.{_↔_}
+use mathlib.Core.Path.{_≡_, refl, ap, _∙_}
+use Prim.Native.Nat.{ℕ, suc, _+_, _*_, _/_, _%_, _^_, _≤_, _<_}
+use borrow.Author.Tests.{leb-true, le-leb, leb-false, ltb-true, lt-ltb, eqb-true}
+use lib.Dec.{leb, eqb}
+use lib.ListN.{length, drop, getD, length-append, length-drop}
+use native.Mathlib.Omega.{arith}
+use Rattle.layout.specs.Bytes.{All, Bytes, flat, agree, some}
+use Rattle.layout.specs.Fields.Header
+use Rattle.layout.specs.Layout.Encode.{encodeRecord}
+use Rattle.layout.specs.Layout.Fine.{Fits, FineItem, FinePart, FineSubobject, FineRecord}
+use Rattle.layout.specs.Layout.Uses.{itemYears, recordYears}
+use Rattle.layout.specs.Shared.Mark.{takesMark, mark}
+use Rattle.layout.specs.Shared.Reference.{referenceChecks, semantics, byte20, byte21, byte22}
+use Rattle.layout.specs.Shared.Row
+use Rattle.layout.specs.Sheet.{Reference, Record, Table}
+use Rattle.layout.specs.Walk.{given, answer, _>>_, holds, yearsOf}
+use Rattle.layout.specs.Writing.Rows.{RecordRow, rowIn, roomRules, nameRules, countRules, rowRules, takeInside, rowWalk}
+use Rattle.layout.specs.Writing.Tables.{table, join, Taken, taken, flattenHeader, flattenRecord}
+use Rattle.laws.proofs.Base.Chains.{Hold, four-case, four-on}
+use Rattle.laws.proofs.Base.Lists.{_&_, both-true}
+use Rattle.laws.proofs.Base.Walks.{Allowed, allowed-append}
+use Rattle.laws.proofs.Writing.Inside.{flattenInside, inside-numbers, recordOf, Inside, inside-sound, inside-complete}
+use Rattle.laws.proofs.Writing.Parts.{FineFirst, firstYears}
+use Rattle.laws.proofs.Writing.Takes.{Takes, Took, table-path, join-assoc}
+
+-- a fine record but for its length, which only TOO LONG bounds
+pub record NearRecord (r : Record) : Type 0 where
+  pub code : Fits Header.code (r .code)
+  pub inGroup : Fits Header.inGroup (r .inGroup)
+  pub group : Fits Header.group (r .group)
+  pub byte20 : Fits Header.byte20 (r .reference .byte20)
+  pub byte21 : Fits Header.byte21 (r .reference .byte21)
+  pub byte22 : Fits Header.byte22 (r .reference .byte22)
+  pub generalisation : Fits Header.generalisation (r .generalisation)
+  pub word : Fits Header.word (r .word)
+  pub count : Fits Header.subobjects (length (r .subobjects))
+  pub reference : holds (referenceChecks (Header.byte20 .place) (Header.byte21 .place) (Header.byte22 .place) (r .reference))
+  pub counted : (not (takesMark (r .first .points)) || eqb (r .word) (r .first .points)) ≡ true
+  pub first : FinePart (r .reference) (r .first)
+  pub subobjects : All (FineSubobject (r .reference) (takesMark (r .first .points))) (r .subobjects)
+  pub flagged : agree (semantics (r .reference)) (some (r .items)) ≡ true
+  pub items : All FineItem (r .items)
+
+pub near-fine : (r : Record) → NearRecord r → Fits Header.total (length (encodeRecord r)) → FineRecord r
+near-fine r n h = record {
+  total = h;
+  code = n .code;
+  inGroup = n .inGroup;
+  group = n .group;
+  byte20 = n .byte20;
+  byte21 = n .byte21;
+  byte22 = n .byte22;
+  generalisation = n .generalisation;
+  word = n .word;
+  count = n .count;
+  reference = n .reference;
+  counted = n .counted;
+  first = n .first;
+  subobjects = n .subobjects;
+  flagged = n .flagged;
+  items = n .items;
+}
+
+pub fine-near : (r : Record) → FineRecord r → NearRecord r
+fine-near r f = record {
+  code = f .code;
+  inGroup = f .inGroup;
+  group = f .group;
+  byte20 = f .byte20;
+  byte21 = f .byte21;
+  byte22 = f .byte22;
+  generalisation = f .generalisation;
+  word = f .word;
+  count = f .count;
+  reference = f .reference;
+  counted = f .counted;
+  first = f .first;
+  subobjects = f .subobjects;
+  flagged = f .flagged;
+  items = f .items;
+}
+
+-- a first count that takes the mark stands in the word, so it fits as the word does
+count-fits : (word points : ℕ) → word < 256 ^ 4 → (not (takesMark points) || eqb word points) ≡ true → points < 256 ^ 4
+count-fits word points h e = go (takesMark points) refl e
+  where
+    go : (b : Bool) → takesMark points ≡ b → (not b || eqb word points) ≡ true → points < 256 ^ 4
+    go true t e = let q : word ≡ points = eqb-true word points e in omega arith
+    go false t e = let q : points < mark = leb-false mark points t in omega arith
+
+near-first : (r : Record) → NearRecord r → FineFirst (r .reference) (r .word) (r .first)
+near-first r n = record { points = count-fits (r .word) (r .first .points) (n .word) (n .counted); counted = n .counted; part = n .first }
+
+-- the reference bytes as one number
+three : (a b c : ℕ) → a < 256 → b < 256 → c < 256
+    → let n = a + 256 * (b + 256 * (c + 256 * 0)) in (n % 256 ≡ a) × (n / 256 % 256 ≡ b) × (n / 65536 % 256 ≡ c)
+three a b c la lb lc =
+    let n = a + 256 * (b + 256 * (c + 256 * 0)) in
+    let h1 : n / 256 ≡ b + 256 * c = omega arith in
+    let h2 : n / 65536 ≡ c = omega arith in
+    (omega arith, rw h1 (omega arith), rw h2 (omega arith))
+
+bytes-of-number : (r : Reference) → r .byte20 < 256 → r .byte21 < 256 → r .byte22 < 256 → Row.referenceOf (Row.referenceNumber r) ≡ r
+bytes-of-number r l20 l21 l22 =
+    let e = three (r .byte20) (r .byte21) (r .byte22) l20 l21 l22 in
+    λ j. record { byte20 = e .0 j; byte21 = e .1 j; byte22 = e .2 j }
+
+number-of-bytes : (n : ℕ) → n < 16777216 → Row.referenceNumber (Row.referenceOf n) ≡ n
+number-of-bytes n h = omega arith
+
+-- the checks on the reference bytes ask the same at any places, and come upon the same years
+reference-holds : (a b c d e f : ℕ) (r : Reference) → holds (referenceChecks a b c r) → holds (referenceChecks d e f r)
+unfolding referenceChecks byte20 byte21 byte22
+reference-holds a b c d e f r h = h
+
+reference-years : (a b c d e f : ℕ) (r : Reference) → yearsOf (referenceChecks a b c r) ≡ yearsOf (referenceChecks d e f r)
+unfolding referenceChecks byte20 byte21 byte22
+reference-years a b c d e f r = refl
+
+-- a record's years are allowed where those of its reference bytes, its first count and its items are
+record-allowed : (al : ℕ → Bool) (r : Record)
+    → Allowed al (recordYears r)
+    ↔ (Allowed al (yearsOf (referenceChecks 3 3 3 (r .reference))) × Allowed al (firstYears (r .first)) × Allowed al (flat itemYears (r .items)))
+unfolding recordYears
+record-allowed al r =
+    let ref = yearsOf (referenceChecks 20 21 22 (r .reference)) in
+    let both = allowed-append al ref (firstYears (r .first)) in
+    let all = allowed-append al (ref ++ firstYears (r .first)) (flat itemYears (r .items)) in
+    rw (reference-years 3 3 3 20 21 22 (r .reference)) (
+      λ y. let a = all .0 y in let b = both .0 (a .0) in (b .0, b .1, a .1),
+      λ y. all .1 (both .1 (y .0, y .1), y .2),
+    )
+
+-- the first eight of at least eight numbers, and the others
+eight : (l : List ℕ) → 8 ≤ length l
+    → getD l 0 0 ∷ getD l 1 0 ∷ getD l 2 0 ∷ getD l 3 0 ∷ getD l 4 0 ∷ getD l 5 0 ∷ getD l 6 0 ∷ getD l 7 0 ∷ drop 8 l ≡ l
+eight [] h = absurd (omega arith)
+eight (a ∷ []) h = absurd (omega arith)
+eight (a ∷ b ∷ []) h = absurd (omega arith)
+eight (a ∷ b ∷ c ∷ []) h = absurd (omega arith)
+eight (a ∷ b ∷ c ∷ d ∷ []) h = absurd (omega arith)
+eight (a ∷ b ∷ c ∷ d ∷ e ∷ []) h = absurd (omega arith)
+eight (a ∷ b ∷ c ∷ d ∷ e ∷ f ∷ []) h = absurd (omega arith)
+eight (a ∷ b ∷ c ∷ d ∷ e ∷ f ∷ g ∷ []) h = absurd (omega arith)
+eight (a ∷ b ∷ c ∷ d ∷ e ∷ f ∷ g ∷ k ∷ l) h = refl
+
+some-length : {A : Type 0} (l : List A) → leb 1 (length l) ≡ some l
+some-length [] = refl
+some-length (a ∷ l) = le-leb 1 (suc (length l)) (omega arith)
+
+-- the row that a record has, and its table read as one
+abbrev rowOf : Record → RecordRow
+rowOf r = record {
+  code = r .code;
+  inGroup = r .inGroup;
+  group = r .group;
+  reference = Row.referenceNumber (r .reference);
+  referenceBytes = r .reference;
+  generalisation = r .generalisation;
+  word = r .word;
+  parts = 1 + length (r .subobjects);
+  items = length (r .items);
+}
+
+row-at : (r : Record) (rest : Table) → NearRecord r → rowIn (join (flattenRecord r) rest .numbers) ≡ rowOf r
+unfolding flattenRecord flattenHeader
+row-at r rest n = λ j. record {
+  code = r .code;
+  inGroup = r .inGroup;
+  group = r .group;
+  reference = Row.referenceNumber (r .reference);
+  referenceBytes = bytes-of-number (r .reference) (n .byte20) (n .byte21) (n .byte22) j;
+  generalisation = r .generalisation;
+  word = r .word;
+  parts = 1 + length (r .subobjects);
+  items = length (r .items);
+}
+
+-- what is left of a table after the eight numbers of a row
+abbrev afterRow : Table → Table
+afterRow t = table (drop 8 (t .numbers)) (t .elements) (t .bytes)
+
+-- what the rules of a row ask, where so many numbers are left
+abbrev RowHolds : RecordRow → ℕ → Type 0
+RowHolds a left = Hold (roomRules a left) (nameRules a) (referenceChecks Row.reference Row.reference Row.reference (a .referenceBytes)) (countRules a)
+
+-- the numbers that they leave room for
+row-room : (a : RecordRow) (left : ℕ) → RowHolds a left
+    → (8 ≤ left) × (8 + (2 * a .parts + 4 * a .items) ≤ left) × (1 ≤ a .parts) × (a .parts ≤ 65536) × (a .reference < 16777216)
+unfolding roomRules nameRules countRules
+row-room a left c =
+    let p = both-true (leb 1 (a .parts)) (leb (a .parts) 65536) (c .3 .1 .1 .0) in
+    (leb-true _ _ (c .0 .0), leb-true _ _ (c .0 .1 .0), leb-true _ _ (p .0), leb-true _ _ (p .1), ltb-true _ _ (c .1 .1 .1 .1 .0))
+
+-- a row whose rules hold, with an inside that was taken, is a near record
+row-near : (al : ℕ → Bool) (ns : List ℕ) (left : ℕ) (t : Table) (v : Taken Record) → RowHolds (rowIn ns) left → (s : Inside al (rowIn ns) t v)
+    → NearRecord (recordOf (rowIn ns) (s .first) (s .subobjects) (s .items))
+unfolding nameRules countRules
+row-near al ns left t v c s =
+    let a : RecordRow = rowIn ns in
+    let room = row-room a left c in
+    let count : length (s .subobjects) < 65536 = omega (arith, room .3, s .partCount) in
+    record {
+      code = ltb-true _ _ (c .1 .0);
+      inGroup = ltb-true _ _ (c .1 .1 .0);
+      group = ltb-true _ _ (c .1 .1 .1 .0);
+      byte20 = omega arith;
+      byte21 = omega arith;
+      byte22 = omega arith;
+      generalisation = ltb-true _ _ (c .3 .0);
+      word = ltb-true _ _ (c .3 .1 .0);
+      count = count;
+      reference = reference-holds 3 3 3 20 21 22 (a .referenceBytes) (c .2);
+      counted = s .fineFirst .counted;
+      first = s .fineFirst .part;
+      subobjects = s .fineSubobjects;
+      flagged = rw (← (some-length (s .items)), s .itemCount) (c .3 .1 .1 .1 .0);
+      items = s .fineItems;
+    }
+
+-- and together they are what stood there
+row-whole : (al : ℕ → Bool) (t : Table) (v : Taken Record) → 8 ≤ length (t .numbers) → rowIn (t .numbers) .reference < 16777216
+    → (s : Inside al (rowIn (t .numbers)) (afterRow t) v)
+    → join (flattenRecord (recordOf (rowIn (t .numbers)) (s .first) (s .subobjects) (s .items))) (s .left) ≡ t
+unfolding flattenRecord flattenHeader
+row-whole al t v h small s =
+    let a : RecordRow = rowIn (t .numbers) in
+    let r : Record = recordOf a (s .first) (s .subobjects) (s .items) in
+    let n : Row.referenceNumber (a .referenceBytes) ≡ a .reference = number-of-bytes (a .reference) small in
+    let row : flattenHeader r .numbers ++ drop 8 (t .numbers) ≡ t .numbers =
+    (λ j. a .code ∷ a .inGroup ∷ a .group ∷ n j ∷ a .generalisation ∷ a .word ∷ s .partCount j ∷ s .itemCount j ∷ drop 8 (t .numbers))
+    ∙ eight (t .numbers) h in
+    let front : join (flattenHeader r) (afterRow t) ≡ t = table-path _ t row refl refl in
+    join-assoc (flattenHeader r) (flattenInside r) (s .left) ∙ ap (λ x. join (flattenHeader r) x) (s .whole) ∙ front
+
+record-sound : (al : ℕ → Bool) (i : ℕ) (t : Table) → Bytes (t .bytes) → (v : Taken Record) → answer al (rowWalk i t) ≡ given v
+    → Took al flattenRecord NearRecord recordYears t v
+unfolding rowWalk rowRules
+record-sound al i t bs v e =
+    let a : RecordRow = rowIn (t .numbers) in
+    let left = length (t .numbers) in
+    let ref = referenceChecks Row.reference Row.reference Row.reference (a .referenceBytes) in
+    four-case al i (roomRules a left) (nameRules a) ref (countRules a) _ v e λ c y e1.
+    let room = row-room a left c in
+    let s = inside-sound al a (i + 8) (afterRow t) (room .2) (omega (arith, room .1, length-drop 8 (t .numbers))) bs v e1 in
+    rw (← (s .is)) (
+      row-near al (t .numbers) left (afterRow t) v c s,
+      record-allowed al (recordOf a (s .first) (s .subobjects) (s .items)) .1 (y .2, s .firstAllowed, s .itemsAllowed),
+      row-whole al t v (room .0) (room .4) s,
+    )
+
+-- the rules of a near record's row hold, where its numbers are left
+near-holds : (r : Record) (left : ℕ) → NearRecord r → Row.rowSize (1 + length (r .subobjects)) (length (r .items)) ≤ left → RowHolds (rowOf r) left
+unfolding roomRules nameRules countRules
+near-holds r left n h =
+    let parts = 1 + length (r .subobjects) in
+    let items = length (r .items) in
+    let small : Row.referenceNumber (r .reference) < 16777216 = omega (arith, n .byte20, n .byte21, n .byte22) in
+    let partsFit : (leb 1 parts && leb parts 65536) ≡ true = rw (le-leb 1 parts (omega arith)) (le-leb parts 65536 (omega (arith, n .count))) in
+    let flag : agree (semantics (r .reference)) (leb 1 items) ≡ true = rw (some-length (r .items)) (n .flagged) in (
+      le-leb 8 left (omega arith) & le-leb _ _ h & tt,
+      lt-ltb _ _ (n .code) & lt-ltb _ _ (n .inGroup) & lt-ltb _ _ (n .group) & lt-ltb _ _ small & tt,
+      reference-holds 20 21 22 3 3 3 (r .reference) (n .reference),
+      lt-ltb _ _ (n .generalisation) & lt-ltb _ _ (n .word) & partsFit & flag & tt,
+    )
+
+-- a record has so many numbers
+pub record-numbers : (r : Record) → length (flattenRecord r .numbers) ≡ Row.rowSize (1 + length (r .subobjects)) (length (r .items))
+unfolding flattenRecord flattenHeader
+record-numbers r = omega (arith, inside-numbers r)
+
+record-complete : (al : ℕ → Bool) (i : ℕ) (r : Record) (rest : Table) → NearRecord r → Allowed al (recordYears r)
+    → answer al (rowWalk i (join (flattenRecord r) rest)) ≡ given (taken r rest)
+unfolding rowWalk rowRules roomRules nameRules countRules flattenRecord flattenHeader
+record-complete al i r rest n y =
+    let t : Table = join (flattenRecord r) rest in
+    let a : RecordRow = rowOf r in
+    let left = length (t .numbers) in
+    let ref = referenceChecks Row.reference Row.reference Row.reference (r .reference) in
+    let z = record-allowed al r .0 y in
+    let room : Row.rowSize (a .parts) (a .items) ≤ left = omega (arith, record-numbers r, length-append (flattenRecord r .numbers) (rest .numbers)) in
+    ap (λ u. answer al (rowRules u i left >> takeInside u (i + 8) (afterRow t))) (row-at r rest n)
+    ∙ four-on al i (roomRules a left) (nameRules a) ref (countRules a) _ (near-holds r left n room) (tt, tt, z .0, tt)
+    ∙ inside-complete al a (i + 8) (r .first) (r .subobjects) (r .items) rest (near-first r n) (n .subobjects) (n .items) refl refl (z .1) (z .2)
+
+pub record-takes : (al : ℕ → Bool) → Takes al 0 rowWalk flattenRecord NearRecord recordYears
+record-takes al = record { sound = λ i t h bs v e. record-sound al i t bs v e; complete = record-complete al }

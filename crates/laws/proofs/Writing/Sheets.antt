@@ -1,0 +1,181 @@
+-- The writer takes exactly the heads and tables of fine sheets, and a setting decides by the years that the sheet uses.
+use mathlib.Core.Bool.{Bool, true, false, not, _&&_}
+use mathlib.Core.List.{List, [], _∷_, _++_}
+use mathlib.Core.Logic.{_↔_}
+use mathlib.Core.Path.{_≡_, refl, _∙_, subst}
+use Prim.Native.Nat.{ℕ, _≤_}
+use borrow.Author.Tests.{leb-true, le-leb, ltb-true, lt-ltb, not-true}
+use lib.Dec.{eqb, ltb}
+use lib.ListN.{length}
+use native.Mathlib.Omega.{arith}
+use Rattle.layout.specs.Bytes.{All, Bytes, Field, flat}
+use Rattle.layout.specs.Fields.{limit}
+use Rattle.layout.specs.Fields.Descriptor
+use Rattle.layout.specs.Fields.Passport
+use Rattle.layout.specs.Layout.Encode.{encode}
+use Rattle.layout.specs.Layout.Fine.{Fits, Fills, FineHead, Fine}
+use Rattle.layout.specs.Layout.Uses.{recordYears, years}
+use Rattle.layout.specs.Shared.Carried.{restChecks, carriedChecks}
+use Rattle.layout.specs.Shared.Texts.{noZero, textFits, FineText}
+use Rattle.layout.specs.Sheet.{Head, Sheet, Table}
+use Rattle.layout.specs.Walk.{outcome, ends, given, answer, upTo, always, yearsOf}
+use Rattle.layout.specs.Writing.Rows.{rowsWalk}
+use Rattle.layout.specs.Writing.Sheets.{titleRules, headWalk, limitRules, tableWalk}
+use Rattle.layout.specs.Writing.Tables.{flatten}
+use Rattle.laws.proofs.Base.Chains.{Hold, four-case, four-on}
+use Rattle.laws.proofs.Base.Lists.{_&_, both-true}
+use Rattle.laws.proofs.Base.Walks.{given-inj, bind-case, bind-on, checks-case, checks-on}
+use Rattle.laws.proofs.Base.Walks.{Allowed, allowed-append, allowed-always, allowed-upTo, outcome-is}
+use Rattle.laws.proofs.Encoding.Lengths.{length-records, count-records}
+use Rattle.laws.proofs.Writing.Limits.{all-fine, all-near}
+use Rattle.laws.proofs.Writing.Rows.{rows-back, rows-on}
+
+-- what the types of the writer's inputs say
+pub record Typed (h : Head) : Type 0 where
+  pub date : Bytes (h .date)
+  pub designation : Bytes (h .designation)
+  pub scale : Fits Passport.scale (h .scale)
+  pub title : Bytes (h .title)
+  pub rest : Fills Passport.rest (h .rest)
+  pub designation2 : Bytes (h .designation2)
+  pub carried : Fills Descriptor.carried (h .carried)
+
+-- the head of a fine sheet is so
+pub fine-typed : (h : Head) → FineHead h → Typed h
+fine-typed h f = record {
+  date = f .date .isBytes;
+  designation = f .designation .isBytes;
+  scale = f .scale;
+  title = f .title .isBytes;
+  rest = f .rest;
+  designation2 = f .designation2 .isBytes;
+  carried = f .carried;
+}
+
+-- the writer's check of a text asks that a field can hold it
+no-zero-back : (t : List ℕ) → noZero t ≡ true → All (λ x. eqb x 0 ≡ false) t
+no-zero-back [] e = tt
+no-zero-back (x ∷ t) e = let h = both-true (not (eqb x 0)) (noZero t) e in (not-true (eqb x 0) (h .0), no-zero-back t (h .1))
+
+no-zero-on : (t : List ℕ) → All (λ x. eqb x 0 ≡ false) t → noZero t ≡ true
+no-zero-on [] f = refl
+no-zero-on (x ∷ t) f = rw (f .0) (no-zero-on t (f .1))
+
+text-back : (f : Field) (t : List ℕ) → Bytes t → (ltb (length t) (f .width) && noZero t) ≡ true → FineText f t
+text-back f t bs e =
+    let h = both-true (ltb (length t) (f .width)) (noZero t) e in
+    record { short = ltb-true _ _ (h .0); nonzero = no-zero-back t (h .1); isBytes = bs }
+
+text-on : (f : Field) (t : List ℕ) → FineText f t → (ltb (length t) (f .width) && noZero t) ≡ true
+text-on f t h = rw (lt-ltb (length t) (f .width) (h .short)) (no-zero-on t (h .nonzero))
+
+-- what the checks on a head ask
+abbrev HeadHolds : Head → Type 0
+HeadHolds h = Hold (titleRules h) (restChecks (h .rest)) (textFits Descriptor.designation (h .designation2) ∷ []) (carriedChecks (h .carried))
+
+head-back : (h : Head) → Typed h → HeadHolds h → FineHead h
+unfolding titleRules
+head-back h ty c = record {
+  date = text-back Passport.date (h .date) (ty .date) (c .0 .0);
+  designation = text-back Passport.designation (h .designation) (ty .designation) (c .0 .1 .0);
+  scale = ty .scale;
+  title = text-back Passport.title (h .title) (ty .title) (c .0 .1 .1 .0);
+  rest = ty .rest;
+  restHolds = c .1;
+  designation2 = text-back Descriptor.designation (h .designation2) (ty .designation2) (c .2 .0);
+  carried = ty .carried;
+  carriedHolds = c .3;
+}
+
+head-on : (h : Head) → FineHead h → HeadHolds h
+unfolding titleRules
+head-on h f = (
+  text-on Passport.date (h .date) (f .date)
+      & text-on Passport.designation (h .designation) (f .designation)
+      & text-on Passport.title (h .title) (f .title)
+      & tt,
+  f .restHolds,
+  text-on Descriptor.designation (h .designation2) (f .designation2) & tt,
+  f .carriedHolds,
+)
+
+-- a sheet's years are allowed where those of its head and of its records are
+years-allowed : (al : ℕ → Bool) (u : Sheet)
+    → Allowed al (years u)
+    ↔ (Allowed al (yearsOf (restChecks (u .head .rest))) × Allowed al (yearsOf (carriedChecks (u .head .carried)))
+    × Allowed al (flat recordYears (u .records)))
+unfolding years
+years-allowed al u =
+    let rest = yearsOf (restChecks (u .head .rest)) in
+    let carried = yearsOf (carriedChecks (u .head .carried)) in
+    let both = allowed-append al rest carried in
+    let all = allowed-append al (rest ++ carried) (flat recordYears (u .records)) in (
+      λ y. let a = all .0 y in let b = both .0 (a .0) in (b .0, b .1, a .1),
+      λ y. all .1 (both .1 (y .0, y .1), y .2),
+    )
+
+-- The writer at any allowed years
+
+pub table-sound : (al : ℕ → Bool) (h : Head) (t : Table) → Typed h → Bytes (t .bytes) → (u : Sheet) → answer al (tableWalk h t) ≡ given u
+    → Fine u × Allowed al (years u) × (u .head ≡ h) × (flatten (u .records) ≡ t)
+unfolding tableWalk headWalk titleRules limitRules
+table-sound al h t ty bs u e =
+    let second = textFits Descriptor.designation (h .designation2) ∷ [] in
+    four-case al 0 (titleRules h) (restChecks (h .rest)) second (carriedChecks (h .carried)) _ u e λ c y e1.
+    bind-case al (rowsWalk t) _ u e1 λ l el e2.
+    let v : Sheet = record { head = h; records = l } in
+    checks-case al 0 (limitRules v) (ends v) u e2 λ d z g.
+    let r = rows-back al t bs l el in
+    let short : length (encode v) ≤ limit = leb-true _ _ (d .0) in
+    let inner = length-records v in
+    rw (← (given-inj g)) (
+      record {
+        short = short;
+        head = head-back h ty c;
+        count = omega (arith, count-records l);
+        records = all-fine l (omega arith) (r .0);
+      },
+      years-allowed al v .1 (y .1, y .3, r .1),
+      refl,
+      r .2,
+    )
+
+pub table-complete : (al : ℕ → Bool) (u : Sheet) → Fine u → Allowed al (years u) → answer al (tableWalk (u .head) (flatten (u .records))) ≡ given u
+unfolding tableWalk headWalk titleRules limitRules
+table-complete al u f y =
+    let h : Head = u .head in
+    let z = years-allowed al u .0 y in
+    four-on al 0 (titleRules h) (restChecks (h .rest)) (textFits Descriptor.designation (h .designation2) ∷ []) (carriedChecks (h .carried)) _
+    (head-on h (f .head)) (tt, z .0, tt, z .1)
+    ∙ bind-on al (rowsWalk (flatten (u .records))) _ (u .records) (rows-on al (u .records) (all-near (u .records) (f .records)) (z .2))
+    ∙ checks-on al 0 (limitRules u) (ends u) (le-leb _ _ (f .short) & tt) tt
+
+-- exactly the fine sheets with that head and that table, whose years are allowed
+pub table-at : (al : ℕ → Bool) (h : Head) (t : Table) → Typed h → Bytes (t .bytes) → (u : Sheet)
+    → (answer al (tableWalk h t) ≡ given u) ↔ (Fine u × Allowed al (years u) × (u .head ≡ h) × (flatten (u .records) ≡ t))
+table-at al h t ty bs u = (
+  λ e. table-sound al h t ty bs u e,
+  λ f. subst (λ k. answer al (tableWalk k t) ≡ given u) (f .2) (subst (λ x. answer al (tableWalk (u .head) x) ≡ given u) (f .3)
+      (table-complete al u (f .0) (f .1))),
+)
+
+-- The newest writer takes exactly the fine sheets with that head and that table.
+pub table : (h : Head) (t : Table) → Typed h → Bytes (t .bytes) → (u : Sheet)
+    → (outcome (tableWalk h t) ≡ ends u) ↔ (Fine u × (u .head ≡ h) × (flatten (u .records) ≡ t))
+table h t ty bs u =
+    let same = outcome-is (tableWalk h t) u in
+    let at = table-at always h t ty bs u in (
+      λ e. let s = at .0 (same .0 e) in (s .0, s .2, s .3),
+      λ f. same .1 (at .1 (f .0, allowed-always (years u), f .1, f .2)),
+    )
+
+-- The writer at y gives the same sheet exactly where no feature of it is newer than y.
+pub newest-table : (h : Head) (t : Table) → Typed h → Bytes (t .bytes) → (u : Sheet) → outcome (tableWalk h t) ≡ ends u → (y : ℕ)
+    → (answer (upTo y) (tableWalk h t) ≡ given u) ↔ All (λ z. z ≤ y) (years u)
+newest-table h t ty bs u e y =
+    let f = table h t ty bs u .0 e in
+    let at = table-at (upTo y) h t ty bs u in
+    let n = allowed-upTo y (years u) in (
+      λ g. n .0 (at .0 g .1),
+      λ g. at .1 (f .0, n .1 g, f .1, f .2),
+    )
