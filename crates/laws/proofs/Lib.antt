@@ -6,3 +6,8 @@ pub mod Base
 pub mod Encoding
 pub mod Reading
 pub mod Writing
+pub mod Exact
+pub mod Years
+pub mod Newest
+pub mod Called
+pub mod Again

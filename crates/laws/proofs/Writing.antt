@@ -7,6 +7,5 @@ pub mod Records
 pub mod Rows
 pub mod Limits
 pub mod Sheets
-pub mod Written
 pub mod Turns
 pub mod Sizes

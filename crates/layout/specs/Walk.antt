@@ -52,6 +52,20 @@ met (ends a) = []
 met (stops number place) = []
 met (meets place year w) = record { place = place; year = year } ∷ met w
 
+-- the first of these features that is later than a setting, if there is one: place, year
+pub data Late : Type 0 where
+  none : Late
+  late : ℕ → ℕ → Late
+
+abbrev pub firstLate : ℕ → List Met → Late
+firstLate setting [] = none
+firstLate setting (m ∷ ms) = cond (leb (m .year) setting) (firstLate setting ms) (late (m .place) (m .year))
+
+-- TOO NEW at that feature, if there is one, and else the answer a
+abbrev pub orTooNew : {A : Type 0} → Late → Answer A → Answer A
+orTooNew none a = a
+orTooNew (late place year) a = refused Refusals.TOO-NEW place year
+
 -- One walk after another. In a `do` block each line is a walk that must come to its end before the next begins, and `x ← walk` names
 -- what it ended in.
 infixl 20 _>>=_

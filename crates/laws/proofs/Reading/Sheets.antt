@@ -180,24 +180,3 @@ sheet-complete al t f y =
 
 pub sheet-law : Law sheetWalk encode Fine years
 sheet-law = record { sound = sheet-sound; complete = sheet-complete }
-
--- a list of bytes is read as t exactly where t is fine and is written so
-pub exact : (s : List ℕ) → Bytes s → (t : Sheet) → (outcome (sheetWalk s) ≡ ends t) ↔ (Fine t × (encode t ≡ s))
-exact = law-exact sheetWalk encode Fine years sheet-law
-
--- what is read is read at a setting exactly where none of its features is later
-pub newest : (s : List ℕ) → Bytes s → (t : Sheet) → outcome (sheetWalk s) ≡ ends t
-    → (y : ℕ) → (answer (upTo y) (sheetWalk s) ≡ given t) ↔ All (λ z. z ≤ y) (years t)
-newest = law-year sheetWalk encode Fine years sheet-law
-
--- what is written of a fine sheet is read as that sheet
-pub read-written : (t : Sheet) → Fine t → outcome (sheetWalk (encode t)) ≡ ends t
-read-written = law-read sheetWalk encode Fine years sheet-law
-
--- two fine sheets that are written alike are one
-pub once : (t u : Sheet) → Fine t → Fine u → encode t ≡ encode u → t ≡ u
-once = law-once sheetWalk encode Fine years sheet-law
-
--- two lists of bytes that are read alike are one
-pub one-form : (s r : List ℕ) → Bytes s → Bytes r → (t : Sheet) → outcome (sheetWalk s) ≡ ends t → outcome (sheetWalk r) ≡ ends t → s ≡ r
-one-form s r bs br t e g = sym (exact s bs t .0 e .1) ∙ exact r br t .0 g .1

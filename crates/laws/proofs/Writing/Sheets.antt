@@ -16,7 +16,7 @@ use Rattle.layout.specs.Layout.Encode.{encode}
 use Rattle.layout.specs.Layout.Fine.{Fits, Fills, FineHead, Fine}
 use Rattle.layout.specs.Layout.Uses.{recordYears, years}
 use Rattle.layout.specs.Shared.Carried.{restChecks, carriedChecks}
-use Rattle.layout.specs.Shared.Texts.{noZero, textFits, FineText}
+use Rattle.layout.specs.Shared.Texts.{noZero, isText, textFits, FineText}
 use Rattle.layout.specs.Sheet.{Head, Sheet, Table}
 use Rattle.layout.specs.Walk.{outcome, ends, given, answer, upTo, always, yearsOf}
 use Rattle.layout.specs.Writing.Rows.{rowsWalk}
@@ -61,12 +61,12 @@ no-zero-on : (t : List ℕ) → All (λ x. eqb x 0 ≡ false) t → noZero t ≡
 no-zero-on [] f = refl
 no-zero-on (x ∷ t) f = rw (f .0) (no-zero-on t (f .1))
 
-text-back : (f : Field) (t : List ℕ) → Bytes t → (ltb (length t) (f .width) && noZero t) ≡ true → FineText f t
+text-back : (f : Field) (t : List ℕ) → Bytes t → isText f t ≡ true → FineText f t
 text-back f t bs e =
     let h = both-true (ltb (length t) (f .width)) (noZero t) e in
     record { short = ltb-true _ _ (h .0); nonzero = no-zero-back t (h .1); isBytes = bs }
 
-text-on : (f : Field) (t : List ℕ) → FineText f t → (ltb (length t) (f .width) && noZero t) ≡ true
+pub text-on : (f : Field) (t : List ℕ) → FineText f t → isText f t ≡ true
 text-on f t h = rw (lt-ltb (length t) (f .width) (h .short)) (no-zero-on t (h .nonzero))
 
 -- what the checks on a head ask
@@ -158,24 +158,3 @@ table-at al h t ty bs u = (
   λ f. subst (λ k. answer al (tableWalk k t) ≡ given u) (f .2) (subst (λ x. answer al (tableWalk (u .head) x) ≡ given u) (f .3)
       (table-complete al u (f .0) (f .1))),
 )
-
--- The newest writer takes exactly the fine sheets with that head and that table.
-pub table : (h : Head) (t : Table) → Typed h → Bytes (t .bytes) → (u : Sheet)
-    → (outcome (tableWalk h t) ≡ ends u) ↔ (Fine u × (u .head ≡ h) × (flatten (u .records) ≡ t))
-table h t ty bs u =
-    let same = outcome-is (tableWalk h t) u in
-    let at = table-at always h t ty bs u in (
-      λ e. let s = at .0 (same .0 e) in (s .0, s .2, s .3),
-      λ f. same .1 (at .1 (f .0, allowed-always (years u), f .1, f .2)),
-    )
-
--- The writer at y gives the same sheet exactly where no feature of it is newer than y.
-pub newest-table : (h : Head) (t : Table) → Typed h → Bytes (t .bytes) → (u : Sheet) → outcome (tableWalk h t) ≡ ends u → (y : ℕ)
-    → (answer (upTo y) (tableWalk h t) ≡ given u) ↔ All (λ z. z ≤ y) (years u)
-newest-table h t ty bs u e y =
-    let f = table h t ty bs u .0 e in
-    let at = table-at (upTo y) h t ty bs u in
-    let n = allowed-upTo y (years u) in (
-      λ g. n .0 (at .0 g .1),
-      λ g. at .1 (f .0, n .1 g, f .1, f .2),
-    )

@@ -60,7 +60,8 @@ unfoldable pub asked : ℕ → List ℕ → ℕ → Answer Placed
 asked year s number = andThen (reading year s) (λ t. recordOf start (t .records) number)
 
 -- "ROOM: a lent output too small; place 0 unless said"
+abbrev pub inRoom : ℕ → List ℕ → Answer (List ℕ)
+inRoom room s = cond (leb (length s) room) (given s) (refused ROOM 0 0)
+
 unfoldable pub written : ℕ → Head → Table → ℕ → Answer (List ℕ)
-written year h t room =
-    atSetting year
-    (andThen (answer (upTo year) (tableWalk h t)) (λ u. cond (leb (length (encode u)) room) (given (encode u)) (refused ROOM 0 0)))
+written year h t room = atSetting year (andThen (answer (upTo year) (tableWalk h t)) (λ u. inRoom room (encode u)))

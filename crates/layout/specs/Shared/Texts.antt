@@ -32,8 +32,11 @@ abbrev pub noZero : List ℕ → Bool
 noZero [] = true
 noZero (x ∷ xs) = not (eqb x 0) && noZero xs
 
+abbrev pub isText : Field → List ℕ → Bool
+isText f t = ltb (length t) (f .width) && noZero t
+
 abbrev pub textFits : Field → List ℕ → Check
-textFits f t = must (ltb (length t) (f .width) && noZero t) TEXT (f .place)
+textFits f t = must (isText f t) TEXT (f .place)
 
 -- a text that a field can hold
 pub record FineText (f : Field) (t : List ℕ) : Type 0 where

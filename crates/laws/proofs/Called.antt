@@ -1,4 +1,4 @@
--- The call that writes: what it gives, and what that is.
+-- The calls that read and write, at a setting: what they give, and when.
 use mathlib.Core.Bool.{true}
 use mathlib.Core.List.{List}
 use mathlib.Core.Path.{_≡_, refl, ap, subst}
@@ -7,12 +7,13 @@ use borrow.Author.Tests.{leb-true, le-leb}
 use lib.Dec.{leb}
 use lib.ListN.{length}
 use native.Mathlib.Omega.{arith}
-use Rattle.layout.specs.Answers.Calls.{andThen, written}
+use Rattle.layout.specs.Answers.Calls.{andThen, reading, written}
 use Rattle.layout.specs.Bytes.{All, Bytes}
 use Rattle.layout.specs.Fields.{limit}
 use Rattle.layout.specs.Layout.Encode.{encode}
 use Rattle.layout.specs.Layout.Fine.{Fine}
 use Rattle.layout.specs.Layout.Uses.{years}
+use Rattle.layout.specs.Reading.Sheets.{sheetWalk}
 use Rattle.layout.specs.Sheet.{Head, Sheet, Table}
 use Rattle.layout.specs.Walk.{Answer, given, refused, answer, upTo}
 use Rattle.layout.specs.Writing.Sheets.{tableWalk}
@@ -20,7 +21,29 @@ use Rattle.layout.specs.Writing.Tables.{flatten}
 use Rattle.layout.specs.Years.{isSetting}
 use Rattle.laws.proofs.Base.Walks.{given-inj, cond-back, allowed-upTo}
 use Rattle.laws.proofs.Encoding.Plain.{encode-bytes, pool-bytes}
-use Rattle.laws.proofs.Writing.Sheets.{Typed, fine-typed, table-at, table}
+use Rattle.laws.proofs.Exact.{table}
+use Rattle.laws.proofs.Reading.Sheets.{sheet-sound, sheet-complete}
+use Rattle.laws.proofs.Writing.Sheets.{Typed, fine-typed, table-at}
+
+-- s is read as the sheet u at a setting
+pub record WasRead (year : ℕ) (s : List ℕ) (u : Sheet) : Type 0 where
+  pub setting : isSetting year ≡ true
+  pub fine : Fine u
+  pub old : All (λ z. z ≤ year) (years u)
+  pub is : encode u ≡ s
+
+pub reading-sound : (year : ℕ) (s : List ℕ) (u : Sheet) → Bytes s → reading year s ≡ given u → WasRead year s u
+unfolding reading
+reading-sound year s u bs e =
+    let at = cond-back (isSetting year) _ _ _ _ u e in
+    let r = sheet-sound (upTo year) s bs u (at .1) in
+    record { setting = at .0; fine = r .0; old = allowed-upTo year (years u) .0 (r .1); is = r .2 }
+
+pub reading-complete : (year : ℕ) (s : List ℕ) (u : Sheet) → WasRead year s u → reading year s ≡ given u
+unfolding reading
+reading-complete year s u r =
+    let given-u = sheet-complete (upTo year) u (r .fine) (allowed-upTo year (years u) .1 (r .old)) in
+    rw (r .setting) (subst (λ x. answer (upTo year) (sheetWalk x) ≡ given u) (r .is) given-u)
 
 -- two fine sheets with one head and one table are one
 pub table-once : (u v : Sheet) → Fine u → Fine v → u .head ≡ v .head → flatten (u .records) ≡ flatten (v .records) → u ≡ v

@@ -1,0 +1,103 @@
+-- The round trips, at one and the same setting, and what is written for one year at every later one. (Demand 2: "Writing the reading of an
+-- accepted sheet gives its bytes again; reading a written sheet gives back the table. No text is ever shortened." Demand 3: "What the
+-- writer makes for a year reads the same at it and at every later year.")
+use mathlib.Core.Bool.{true, false}
+use mathlib.Core.List.{List, [], _∷_}
+use mathlib.Core.Path.{_≡_, refl, ap, sym, _∙_, subst}
+use Prim.Native.Nat.{ℕ, _≤_}
+use borrow.Author.Tests.{le-leb}
+use lib.ListN.{length}
+use native.Mathlib.Omega.{arith}
+use Rattle.layout.specs.Answers.Calls.{andThen, reading, Rooms, inRooms, unfolded, written}
+use Rattle.layout.specs.Bytes.{All, Bytes}
+use Rattle.layout.specs.Fields.Descriptor
+use Rattle.layout.specs.Fields.Passport
+use Rattle.layout.specs.Layout.Fine.{FineHead}
+use Rattle.layout.specs.Layout.Uses.{years}
+use Rattle.layout.specs.Refusals.{TEXT}
+use Rattle.layout.specs.Shared.Texts.{isText}
+use Rattle.layout.specs.Sheet.{Head, Sheet, Table}
+use Rattle.layout.specs.Walk.{given, refused}
+use Rattle.layout.specs.Writing.Sheets.{titleRules, headWalk, tableWalk}
+use Rattle.layout.specs.Writing.Tables.{flatten}
+use Rattle.layout.specs.Years.{isSetting}
+use Rattle.laws.proofs.Called.{WasRead, reading-sound, reading-complete, Wrote, written-sound, written-complete}
+use Rattle.laws.proofs.Encoding.Plain.{pool-bytes}
+use Rattle.laws.proofs.Writing.Sheets.{Typed, fine-typed, text-on}
+
+-- With room enough and one year for both, writing the reading of an accepted sheet gives its bytes again.
+pub written-again : (year : ℕ) (s : List ℕ) → Bytes s → (u : Sheet) → reading year s ≡ given u
+    → (room : ℕ) → length s ≤ room → written year (u .head) (flatten (u .records)) room ≡ given s
+written-again year s bs u e room enough =
+    let r : WasRead year s u = reading-sound year s u bs e in
+    written-complete year (u .head) (flatten (u .records)) room s (fine-typed (u .head) (r .fine .head)) (pool-bytes u (r .fine)) u
+    (record { setting = r .setting; fine = r .fine; old = r .old; head = refl; records = refl; is = r .is; fits = enough })
+
+older : (y z : ℕ) → y ≤ z → (l : List ℕ) → All (λ k. k ≤ y) l → All (λ k. k ≤ z) l
+older y z h [] f = tt
+older y z h (k ∷ l) f = (omega (arith, h, f .0), older y z h l (f .1))
+
+-- the sheet that was written, read at its year or at a later one
+read-wrote : (year : ℕ) (h : Head) (t : Table) (room : ℕ) (s : List ℕ) (u : Sheet) → Wrote year h t room s u
+    → (z : ℕ) → isSetting z ≡ true → year ≤ z → reading z s ≡ given u
+read-wrote year h t room s u w z ok after =
+    reading-complete z s u (record { setting = ok; fine = w .fine; old = older year z after (years u) (w .old); is = w .is })
+
+-- Reading a written sheet gives back the head and the table it was written from.
+pub read-again : (year : ℕ) (h : Head) (t : Table) (room : ℕ) (s : List ℕ) → Typed h → Bytes (t .bytes) → written year h t room ≡ given s
+    → (u : Sheet) × (reading year s ≡ given u) × (u .head ≡ h) × (flatten (u .records) ≡ t)
+read-again year h t room s typed bs e =
+    let w = written-sound year h t room s typed bs e in
+    (w .0, read-wrote year h t room s (w .0) (w .1) year (w .1 .setting) (omega arith), w .1 .head, w .1 .records)
+
+-- Unfolding it, where each room is enough, gives that very table.
+pub unfolded-again : (year : ℕ) (h : Head) (t : Table) (room : ℕ) (s : List ℕ) → Typed h → Bytes (t .bytes) → written year h t room ≡ given s
+    → (rooms : Rooms) → length (t .numbers) ≤ rooms .numbers → length (t .elements) ≤ rooms .elements → length (t .bytes) ≤ rooms .bytes
+    → unfolded year s rooms ≡ given t
+unfolding unfolded
+unfolded-again year h t room s typed bs e rooms n k m =
+    let r = read-again year h t room s typed bs e in
+    ap (λ a. andThen a (λ u. inRooms rooms (flatten (u .records)))) (r .1)
+    ∙ ap (inRooms rooms) (r .3)
+    ∙ rw (le-leb _ _ n, le-leb _ _ k, le-leb _ _ m)
+
+-- What the writer makes for one year reads the same at that year and at every later one.
+pub later : (year : ℕ) (h : Head) (t : Table) (room : ℕ) (s : List ℕ) → Typed h → Bytes (t .bytes) → written year h t room ≡ given s
+    → (z : ℕ) → isSetting z ≡ true → year ≤ z → reading z s ≡ reading year s
+later year h t room s typed bs e z ok after =
+    let w = written-sound year h t room s typed bs e in
+    read-wrote year h t room s (w .0) (w .1) z ok after ∙ sym (read-wrote year h t room s (w .0) (w .1) year (w .1 .setting) (omega arith))
+
+-- No text is ever shortened: the texts that the writer takes are read back byte for byte,
+pub texts-kept : (year : ℕ) (h : Head) (t : Table) (room : ℕ) (s : List ℕ) → Typed h → Bytes (t .bytes) → written year h t room ≡ given s
+    → (u : Sheet) × (reading year s ≡ given u) × (u .head .date ≡ h .date) × (u .head .designation ≡ h .designation)
+    × (u .head .title ≡ h .title) × (u .head .designation2 ≡ h .designation2)
+texts-kept year h t room s typed bs e =
+    let r = read-again year h t room s typed bs e in
+    (r .0, r .1, ap (λ k. k .date) (r .2), ap (λ k. k .designation) (r .2), ap (λ k. k .title) (r .2), ap (λ k. k .designation2) (r .2))
+
+-- and one that does not fit its field, or has a zero in it, is not written at all
+pub never-cut : (year : ℕ) (h : Head) (t : Table) (room : ℕ) (s : List ℕ) → Typed h → Bytes (t .bytes) → written year h t room ≡ given s
+    → (isText Passport.date (h .date) ≡ true) × (isText Passport.designation (h .designation) ≡ true)
+    × (isText Passport.title (h .title) ≡ true) × (isText Descriptor.designation (h .designation2) ≡ true)
+never-cut year h t room s typed bs e =
+    let w = written-sound year h t room s typed bs e in
+    let f : FineHead h = subst (λ k. FineHead k) (w .1 .head) (w .1 .fine .head) in
+    (text-on Passport.date (h .date) (f .date), text-on Passport.designation (h .designation) (f .designation),
+    text-on Passport.title (h .title) (f .title), text-on Descriptor.designation (h .designation2) (f .designation2))
+
+-- but refused as TEXT, at its place.
+pub date-refused : (year : ℕ) (h : Head) (t : Table) (room : ℕ) → isSetting year ≡ true → isText Passport.date (h .date) ≡ false
+    → written year h t room ≡ refused TEXT 16 0
+unfolding written tableWalk headWalk titleRules
+date-refused year h t room ok date = rw (ok, date)
+
+pub designation-refused : (year : ℕ) (h : Head) (t : Table) (room : ℕ) → isSetting year ≡ true → isText Passport.date (h .date) ≡ true
+    → isText Passport.designation (h .designation) ≡ false → written year h t room ≡ refused TEXT 28 0
+unfolding written tableWalk headWalk titleRules
+designation-refused year h t room ok date designation = rw (ok, date, designation)
+
+pub title-refused : (year : ℕ) (h : Head) (t : Table) (room : ℕ) → isSetting year ≡ true → isText Passport.date (h .date) ≡ true
+    → isText Passport.designation (h .designation) ≡ true → isText Passport.title (h .title) ≡ false → written year h t room ≡ refused TEXT 64 0
+unfolding written tableWalk headWalk titleRules
+title-refused year h t room ok date designation title = rw (ok, date, designation, title)

@@ -1,0 +1,51 @@
+-- A sheet is accepted exactly when it keeps the layout, and is read as the layout says. (Demand 2: "The 2017 reader accepts a sheet
+-- exactly when it keeps the layout of document 01, and reads it as that layout says.")
+use mathlib.Core.List.{List}
+use mathlib.Core.Logic.{_↔_}
+use mathlib.Core.Path.{_≡_, sym, _∙_}
+use Prim.Native.Nat.{ℕ}
+use Rattle.layout.specs.Bytes.{Bytes}
+use Rattle.layout.specs.Layout.Encode.{encode}
+use Rattle.layout.specs.Layout.Fine.{Fine}
+use Rattle.layout.specs.Layout.Uses.{years}
+use Rattle.layout.specs.Reading.Sheets.{sheetWalk}
+use Rattle.layout.specs.Sheet.{Head, Sheet, Table}
+use Rattle.layout.specs.Walk.{outcome, ends, always}
+use Rattle.layout.specs.Writing.Sheets.{tableWalk}
+use Rattle.layout.specs.Writing.Tables.{flatten}
+use Rattle.laws.proofs.Base.Readers.{law-exact, law-read, law-once}
+use Rattle.laws.proofs.Base.Walks.{allowed-always, outcome-is}
+use Rattle.laws.proofs.Reading.Sheets.{sheet-law}
+use Rattle.laws.proofs.Writing.Sheets.{Typed, table-at}
+
+-- For every list of bytes s and every sheet t: the 2017 walk of s ends in t exactly when t is fine and is written so.
+pub exact : (s : List ℕ) → Bytes s → (t : Sheet) → (outcome (sheetWalk s) ≡ ends t) ↔ (Fine t × (encode t ≡ s))
+exact = law-exact sheetWalk encode Fine years sheet-law
+
+-- Reading the encoding of a fine sheet gives that sheet.
+pub read-encoded : (t : Sheet) → Fine t → outcome (sheetWalk (encode t)) ≡ ends t
+read-encoded = law-read sheetWalk encode Fine years sheet-law
+
+-- Encoding the reading of an accepted sheet gives its bytes.
+pub encoded-read : (s : List ℕ) → Bytes s → (t : Sheet) → outcome (sheetWalk s) ≡ ends t → encode t ≡ s
+encoded-read s b t e = exact s b t .0 e .1
+
+-- An accepted sheet has one reading, and one sheet is written in one way only.
+pub one-reading : (s : List ℕ) (t u : Sheet) → outcome (sheetWalk s) ≡ ends t → outcome (sheetWalk s) ≡ ends u → t ≡ u
+one-reading s t u e g = cc
+
+pub one-sheet : (t u : Sheet) → Fine t → Fine u → encode t ≡ encode u → t ≡ u
+one-sheet = law-once sheetWalk encode Fine years sheet-law
+
+pub one-form : (s r : List ℕ) → Bytes s → Bytes r → (t : Sheet) → outcome (sheetWalk s) ≡ ends t → outcome (sheetWalk r) ≡ ends t → s ≡ r
+one-form s r bs br t e g = sym (encoded-read s bs t e) ∙ encoded-read r br t g
+
+-- The writer's walk of a head and a table ends in u exactly when u is fine, its head is that head, and its records flatten to that table.
+pub table : (h : Head) (t : Table) → Typed h → Bytes (t .bytes) → (u : Sheet)
+    → (outcome (tableWalk h t) ≡ ends u) ↔ (Fine u × (u .head ≡ h) × (flatten (u .records) ≡ t))
+table h t ty bs u =
+    let same = outcome-is (tableWalk h t) u in
+    let at = table-at always h t ty bs u in (
+      λ e. let s = at .0 (same .0 e) in (s .0, s .2, s .3),
+      λ f. same .1 (at .1 (f .0, allowed-always (years u), f .1, f .2)),
+    )
