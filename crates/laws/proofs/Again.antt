@@ -82,9 +82,12 @@ pub never-cut : (year : ℕ) (h : Head) (t : Table) (room : ℕ) (s : List ℕ) 
     × (isText Passport.title (h .title) ≡ true) × (isText Descriptor.designation (h .designation2) ≡ true)
 never-cut year h t room s typed bs e =
     let w = written-sound year h t room s typed bs e in
-    let f : FineHead h = subst (λ k. FineHead k) (w .1 .head) (w .1 .fine .head) in
-    (text-on Passport.date (h .date) (f .date), text-on Passport.designation (h .designation) (f .designation),
-    text-on Passport.title (h .title) (f .title), text-on Descriptor.designation (h .designation2) (f .designation2))
+    let f : FineHead h = subst (λ k. FineHead k) (w .1 .head) (w .1 .fine .head) in (
+      text-on Passport.date (h .date) (f .date),
+      text-on Passport.designation (h .designation) (f .designation),
+      text-on Passport.title (h .title) (f .title),
+      text-on Descriptor.designation (h .designation2) (f .designation2),
+    )
 
 -- but refused as TEXT, at its place.
 pub date-refused : (year : ℕ) (h : Head) (t : Table) (room : ℕ) → isSetting year ≡ true → isText Passport.date (h .date) ≡ false

@@ -11,3 +11,4 @@ pub mod Years
 pub mod Newest
 pub mod Called
 pub mod Again
+pub mod Bounds

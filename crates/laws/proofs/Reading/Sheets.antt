@@ -20,9 +20,9 @@ use Rattle.layout.specs.Reading.Sheets.{start, sumOf, sizeChecks, passportCheck
 use Rattle.layout.specs.Refusals.{LEFT-OVER}
 use Rattle.layout.specs.Shared.Carried.{restChecks, carriedChecks}
 use Rattle.layout.specs.Sheet.{Head, Sheet, Record}
-use Rattle.layout.specs.Walk.{Walk, outcome, ends, answer, given, upTo, holds, yearsOf, times, whole}
+use Rattle.layout.specs.Walk.{Walk, answer, given, holds, yearsOf, times, whole}
 use Rattle.laws.proofs.Base.Lists.{_&_, all-drop}
-use Rattle.laws.proofs.Base.Readers.{Fills, Law, times-reads, whole-fills, law-read, law-exact, law-year, law-once}
+use Rattle.laws.proofs.Base.Readers.{Fills, Law, times-reads, whole-fills}
 use Rattle.laws.proofs.Base.Rows.{rowIn, putRow, FitRow, OkIn, row-back, row-on, ok-on, length-row}
 use Rattle.laws.proofs.Base.Texts.{zeros-back}
 use Rattle.laws.proofs.Base.Walks.{Allowed, allowed-append, given-inj, bind-case, bind-on, checks-case, checks-on}

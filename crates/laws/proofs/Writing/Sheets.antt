@@ -1,5 +1,5 @@
 -- The writer takes exactly the heads and tables of fine sheets, and a setting decides by the years that the sheet uses.
-use mathlib.Core.Bool.{Bool, true, false, not, _&&_}
+use mathlib.Core.Bool.{Bool, true, false, not}
 use mathlib.Core.List.{List, [], _∷_, _++_}
 use mathlib.Core.Logic.{_↔_}
 use mathlib.Core.Path.{_≡_, refl, _∙_, subst}
@@ -18,14 +18,14 @@ use Rattle.layout.specs.Layout.Uses.{recordYears, years}
 use Rattle.layout.specs.Shared.Carried.{restChecks, carriedChecks}
 use Rattle.layout.specs.Shared.Texts.{noZero, isText, textFits, FineText}
 use Rattle.layout.specs.Sheet.{Head, Sheet, Table}
-use Rattle.layout.specs.Walk.{outcome, ends, given, answer, upTo, always, yearsOf}
+use Rattle.layout.specs.Walk.{ends, given, answer, yearsOf}
 use Rattle.layout.specs.Writing.Rows.{rowsWalk}
 use Rattle.layout.specs.Writing.Sheets.{titleRules, headWalk, limitRules, tableWalk}
 use Rattle.layout.specs.Writing.Tables.{flatten}
 use Rattle.laws.proofs.Base.Chains.{Hold, four-case, four-on}
 use Rattle.laws.proofs.Base.Lists.{_&_, both-true}
 use Rattle.laws.proofs.Base.Walks.{given-inj, bind-case, bind-on, checks-case, checks-on}
-use Rattle.laws.proofs.Base.Walks.{Allowed, allowed-append, allowed-always, allowed-upTo, outcome-is}
+use Rattle.laws.proofs.Base.Walks.{Allowed, allowed-append}
 use Rattle.laws.proofs.Encoding.Lengths.{length-records, count-records}
 use Rattle.laws.proofs.Writing.Limits.{all-fine, all-near}
 use Rattle.laws.proofs.Writing.Rows.{rows-back, rows-on}

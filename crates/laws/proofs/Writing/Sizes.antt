@@ -121,7 +121,7 @@ module _ {A : Type 0} (E : A → Table) (F : A → Type 0) (f : A → ℕ) where
   bytes-joined g [] h = refl
   bytes-joined g (a ∷ l) h = rw (length-append (E a .bytes) (joined E l .bytes), g a (h .0), bytes-joined g l (h .1))
 
-sum-times : {A : Type 0} (f : A → ℕ) (k : ℕ) (l : List A) → sumBy (λ a. f a * k) l ≡ sumBy f l * k
+pub sum-times : {A : Type 0} (f : A → ℕ) (k : ℕ) (l : List A) → sumBy (λ a. f a * k) l ≡ sumBy f l * k
 sum-times f k [] = sym (zero-mul k)
 sum-times f k (a ∷ l) = rw (sum-times f k l) (sym (add-mul (f a) (sumBy f l) k))
 

@@ -1,15 +1,14 @@
 -- Walks whose own refusals are never TOO NEW, and whose features are of 2017 or earlier: at 2017 they are followed to their end.
-use mathlib.Core.Bool.{Bool, true, false}
+use mathlib.Core.Bool.{true, false}
 use mathlib.Core.List.{List, [], _∷_}
 use mathlib.Core.Path.{_≡_, refl, ap, sym, _∙_}
-use Prim.Native.Nat.{ℕ, zero, suc, _+_, _≤_}
-use borrow.Author.Tests.{leb-true, le-leb}
+use Prim.Native.Nat.{ℕ, zero, suc, _+_}
 use lib.Dec.{leb, eqb}
 use lib.ListN.{length, drop}
 use native.Mathlib.Omega.{arith}
 use Rattle.layout.specs.Refusals.{TOO-NEW}
-use Rattle.layout.specs.Walk.{Walk, ends, stops, meets, Answer, given, refused, answer, upTo, always, _>>=_, _>>_, Check, must, dated, checks, Piece, piece, Reader, times, pair, filling, fill, whole}
-use Rattle.layout.specs.Writing.Tables.{Taken, taken, Taker, many}
+use Rattle.layout.specs.Walk.{Walk, ends, stops, meets, refused, answer, upTo, always, _>>=_, _>>_, Check, must, dated, checks, Reader, times, pair, filling, fill, whole}
+use Rattle.layout.specs.Writing.Tables.{Taker, many}
 use Rattle.layout.specs.Sheet.{Table}
 use Rattle.laws.proofs.Base.Lists.{_&_}
 

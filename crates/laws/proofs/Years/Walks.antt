@@ -5,11 +5,11 @@ use mathlib.Core.Logic.{_↔_}
 use mathlib.Core.Path.{_≡_, refl, ap, _∙_}
 use Prim.Native.Nat.{ℕ, _≤_, _<_}
 use borrow.Author.Tests.{leb-true, leb-false, le-leb, lt-leb}
-use lib.Dec.{leb, eqb}
+use lib.Dec.{leb}
 use native.Mathlib.Omega.{arith}
 use Rattle.layout.specs.Bytes.{All}
 use Rattle.layout.specs.Refusals.{TOO-NEW}
-use Rattle.layout.specs.Walk.{Walk, ends, stops, meets, Answer, given, refused, answer, upTo, always, Met, met, Late, none, late, firstLate, orTooNew}
+use Rattle.layout.specs.Walk.{Walk, ends, stops, meets, refused, answer, upTo, always, Met, met, none, late, firstLate, orTooNew}
 
 -- the answer at a setting is TOO NEW at the first late feature, and else the answer where every year is allowed
 pub walk-years : {A : Type 0} (y : ℕ) (w : Walk A) → answer (upTo y) w ≡ orTooNew (firstLate y (met w)) (answer always w)
