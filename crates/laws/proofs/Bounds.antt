@@ -6,20 +6,21 @@ use Prim.Native.Nat.{ℕ, _+_, _*_, _≤_}
 use lib.ListN.{length}
 use native.Mathlib.Nat.{zero-mul, suc-mul, add-mul, mul-assoc, mul-comm, mul-le-mul-left}
 use native.Mathlib.Omega.{arith}
-use Rattle.layout.specs.Bytes.{All, flat}
-use Rattle.layout.specs.Fields.Passport
-use Rattle.layout.specs.Layout.Encode.{encodeRecord, sheetSum, encode}
-use Rattle.layout.specs.Layout.Fine.{Fits, FineItem, FineLabel, FineSubobject, Fine}
+use Rattle.layout.specs.Bytes.{All}
+use Rattle.layout.specs.Layout.Encode.{encode}
+use Rattle.layout.specs.Layout.Fine.{FineItem, FineLabel, FineSubobject, Fine}
 use Rattle.layout.specs.Reading.Sheets.{start}
 use Rattle.layout.specs.Shared.Reference.{elementSize, floating, threeDimensions, textInMetric}
 use Rattle.layout.specs.Shared.Widths.{elementWidths, pointBytes, widths, pointSize}
 use Rattle.layout.specs.Sheet.{Item, Part, Reference, Record, Sheet}
 use Rattle.layout.specs.Writing.Tables.{flatten}
-use Rattle.laws.proofs.Encoding.Lengths.{length-encode}
-use Rattle.laws.proofs.Encoding.Sums.{sum-fits}
 use Rattle.laws.proofs.Writing.Limits.{all-near}
 use Rattle.laws.proofs.Writing.Records.{NearRecord}
 use Rattle.laws.proofs.Writing.Sizes.{sumBy, sum-times, itemBytes, subobjectBytes, recordBytes, rowNumbers, rowElements, rowBytes, encode-length, flatten-sizes}
+-- "a fine sheet's sum fits 32 bits" and "its length is 452 plus the records' lengths": `sum-fits` and `length-encode` stand with the
+-- encoding, and are passed on here
+pub use Rattle.laws.proofs.Encoding.Lengths.{length-encode}
+pub use Rattle.laws.proofs.Encoding.Sums.{sum-fits}
 
 -- sums of smaller things are smaller
 sum-le : {A : Type 0} (F : A → Type 0) (f g : A → ℕ) → ((a : A) → F a → f a ≤ g a) → (l : List A) → All F l → sumBy f l ≤ sumBy g l
@@ -95,14 +96,6 @@ row-bytes r n =
     let items : sumBy (λ (i : Item). length (i .value)) (r .items) ≤ sumBy itemBytes (r .items) =
     sum-le FineItem (λ i. length (i .value)) itemBytes (λ i f. omega arith) (r .items) (n .items) in
     omega (arith, first, later, items)
-
--- The sum of a fine sheet fits 32 bits.
-pub sum-bound : (u : Sheet) → Fine u → Fits Passport.sum (sheetSum u)
-sum-bound = sum-fits
-
--- A fine sheet has 452 bytes and its records'.
-pub length-bound : (u : Sheet) → Fine u → length (encode u) ≡ start + length (flat encodeRecord (u .records))
-length-bound u f = length-encode u (f .head)
 
 -- The three outputs of unfolding, against the sheet's length: a record takes 22 bytes more than it has numbers, 32 more than twice its
 -- elements, and 32 more than it has bytes in the pool.

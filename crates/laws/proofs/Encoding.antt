@@ -2,3 +2,4 @@
 pub mod Plain
 pub mod Lengths
 pub mod Sums
+pub mod Uses

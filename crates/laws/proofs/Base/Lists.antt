@@ -5,7 +5,7 @@ use mathlib.Core.Logic.{_↔_}
 use mathlib.Core.Path.{_≡_, refl}
 use Prim.Native.Nat.{ℕ, zero, suc, _<_}
 use native.Mathlib.Omega.{arith}
-use lib.ListN.{length, take, drop, replicate}
+use lib.ListN.{length, take, drop}
 use Rattle.layout.specs.Bytes.{All, flat, some}
 
 -- values one after another, as a row or a list of checks has them
@@ -27,16 +27,6 @@ pub all-take : {A : Type 0} (P : A → Type 0) (n : ℕ) (s : List A) → All P 
 all-take P zero s h = tt
 all-take P (suc n) [] h = tt
 all-take P (suc n) (a ∷ s) h = (h .0, all-take P n s (h .1))
-
--- a fact of everything that stands in lists put one after another
-pub all-flat : {A B : Type 0} (P : B → Type 0) (E : A → List B) (F : A → Type 0) → ((a : A) → F a → All P (E a))
-    → (l : List A) → All F l → All P (flat E l)
-all-flat P E F g [] h = tt
-all-flat P E F g (a ∷ l) h = all-append P (E a) (flat E l) .1 (g a (h .0), all-flat P E F g l (h .1))
-
-pub all-replicate : {A : Type 0} (P : A → Type 0) (n : ℕ) (a : A) → P a → All P (replicate n a)
-all-replicate P zero a h = tt
-all-replicate P (suc n) a h = (h, all-replicate P n a h)
 
 -- there are bytes exactly where there are pieces, if every piece has bytes
 pub some-flat : {A : Type 0} (E : A → List ℕ) → ((a : A) → 0 < length (E a)) → (l : List A) → some (flat E l) ≡ some l

@@ -7,7 +7,7 @@ use lib.Seq.{drop-at}
 use native.Mathlib.Nat.{zero-mul, suc-mul}
 use native.Mathlib.Omega.{arith}
 use Rattle.layout.specs.Bytes.{Bytes, number, bytes, numbers, storedAll, FitAll, repeat, total}
-use Rattle.laws.proofs.Base.Lists.{all-append, all-drop}
+use Rattle.laws.proofs.Base.Lists.{all-drop}
 use Rattle.laws.proofs.Base.Readers.{took-both}
 
 pub length-bytes : (n v : ℕ) → length (bytes n v) ≡ n
@@ -55,11 +55,6 @@ stored-numbers [] xs bs h = (tt, refl)
 stored-numbers (w ∷ ws) xs bs h =
     let b = stored-numbers ws (drop w xs) (all-drop _ w xs bs) (rw length-drop (omega arith)) in
     ((number-lt w xs bs, b .0), took-both (bytes w (number w xs)) (storedAll ws (numbers ws (drop w xs))) xs w (total ws) (bytes-number w xs bs (omega arith)) (b .1))
-
-pub stored-bytes : (ws es : List ℕ) → Bytes (storedAll ws es)
-stored-bytes [] es = tt
-stored-bytes (w ∷ ws) [] = tt
-stored-bytes (w ∷ ws) (e ∷ es) = all-append _ (bytes w e) (storedAll ws es) .1 (bytes-bytes w e, stored-bytes ws es)
 
 -- bytes add up to 255 times their count at most
 pub total-bytes : (xs : List ℕ) → Bytes xs → total xs ≤ 255 * length xs

@@ -6,12 +6,12 @@ use mathlib.Core.Path.{_≡_, refl, ap, sym, _∙_, subst}
 use Prim.Native.Nat.{ℕ, zero, suc, _+_, _≤_, _<_}
 use borrow.Author.Tests.{leb-true, le-leb}
 use lib.Dec.{leb}
-use lib.ListN.{length, take, drop, length-append, length-drop, drop-of-length-le, take-append-drop}
-use lib.Seq.{drop-drop, drop-append-seam, length-take-le}
+use lib.ListN.{length, drop, length-append, length-drop, drop-of-length-le}
+use lib.Seq.{drop-drop, drop-append-seam}
 use native.Mathlib.Omega.{arith}
 use Rattle.layout.specs.Bytes.{All, flat, Bytes}
 use Rattle.layout.specs.Walk.{Walk, ends, outcome, given, answer, upTo, always, _>>=_, _>>_, must, Piece, piece, Reader, times, pair, filling, fill, whole}
-use Rattle.laws.proofs.Base.Lists.{all-drop, all-take}
+use Rattle.laws.proofs.Base.Lists.{all-drop}
 use Rattle.laws.proofs.Base.Walks.{given-inj, bind-case, bind-on, checks-case, checks-on, Allowed, allowed-append, allowed-always, allowed-upTo, outcome-is}
 
 -- what a reader took: v is the value and the count of its bytes
@@ -27,14 +27,6 @@ pub record Reads {A : Type 0} (al : ℕ → Bool) (r : Reader A) (E : A → List
 pub record Fills {A : Type 0} (al : ℕ → Bool) (w : ℕ → List ℕ → Walk A) (E : A → List ℕ) (F : A → Type 0) (Y : A → List ℕ) : Type 0 where
   pub sound : (p : ℕ) (xs : List ℕ) → Bytes xs → (a : A) → answer al (w p xs) ≡ given a → F a × Allowed al (Y a) × (E a ≡ xs)
   pub complete : (p : ℕ) (a : A) → F a → Allowed al (Y a) → answer al (w p (E a)) ≡ given a
-
--- a window of n bytes, filled by a piece
-pub window-took : {A : Type 0} (al : ℕ → Bool) (w : ℕ → List ℕ → Walk A) (E : A → List ℕ) (F : A → Type 0) (Y : A → List ℕ) → Fills al w E F Y
-    → (p n : ℕ) (ys : List ℕ) → Bytes ys → n ≤ length ys → (a : A) → answer al (w p (take n ys)) ≡ given a
-    → F a × Allowed al (Y a) × (n ≡ length (E a)) × (E a ++ drop n ys ≡ ys) × (E a ≡ take n ys)
-window-took al w E F Y W p n ys bs h a e =
-    let s = W .sound p (take n ys) (all-take _ n ys bs) a e in
-    (s .0, s .1, rw (s .2) (sym (length-take-le n ys h)), rw (s .2) (take-append-drop n ys), s .2)
 
 pub took-both : (e g xs : List ℕ) (k m : ℕ) → e ++ drop k xs ≡ xs → g ++ drop m (drop k xs) ≡ drop k xs → (e ++ g) ++ drop (k + m) xs ≡ xs
 took-both e g xs k m h i = rw (append-assoc, ← (drop-drop m k xs), i) h

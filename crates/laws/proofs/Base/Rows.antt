@@ -2,14 +2,14 @@
 use mathlib.Core.Bool.{Bool, true}
 use mathlib.Core.List.{List, [], _∷_, _++_, append-assoc}
 use mathlib.Core.Path.{_≡_, refl, ap, sym, _∙_, subst}
-use Prim.Native.Nat.{ℕ, _+_, _-_, _^_, _≤_, _<_}
+use Prim.Native.Nat.{ℕ, _+_, _^_, _≤_, _<_}
 use native.Mathlib.Omega.{arith}
-use lib.ListN.{length, take, drop, replicate, length-append, length-drop, take-append-drop}
+use lib.ListN.{length, take, drop, length-append, length-drop, take-append-drop}
 use lib.Seq.{drop-at, drop-drop, take-at, length-take-le}
 use Rattle.layout.specs.Bytes.{Bytes, Field, number, numberIn, bytesIn, stored}
 use Rattle.layout.specs.Shared.Texts.{textOf, isTextField, padded, FineText}
-use Rattle.laws.proofs.Base.Lists.{all-append, all-take, all-drop, all-replicate}
-use Rattle.laws.proofs.Base.Numbers.{length-bytes, bytes-bytes, number-bytes, number-lt, bytes-number}
+use Rattle.laws.proofs.Base.Lists.{all-take, all-drop}
+use Rattle.laws.proofs.Base.Numbers.{length-bytes, number-bytes, number-lt, bytes-number}
 use Rattle.laws.proofs.Base.Readers.{took-both}
 use Rattle.laws.proofs.Base.Texts.{text-back, text-on, length-padded}
 
@@ -155,25 +155,6 @@ put-row (k ∷ ks) xs bs h o =
     let a = put-get k xs bs (omega arith) (o .0) in
     let b = put-row ks (drop (wide k) xs) (all-drop _ (wide k) xs bs) (rw length-drop (omega arith)) (o .1) in
     ((a .0, b .0), took-both (putVal k (getVal k xs)) (putRow ks (getRow ks (drop (wide k) xs))) xs (wide k) (rowSize ks) (a .1) (b .1))
-
--- a row of plain bytes and texts is stored in bytes
-abbrev pub PlainVal : (k : Column) → Val k → Type 0
-PlainVal (num f) v = Unit {0}
-PlainVal (raw f) v = Bytes v
-PlainVal (text f) v = Bytes v
-
-abbrev pub PlainRow : (ks : List Column) → Vals ks → Type 0
-PlainRow [] h = Unit {0}
-PlainRow (k ∷ ks) h = PlainVal k (h .0) × PlainRow ks (h .1)
-
-val-bytes : (k : Column) (v : Val k) → PlainVal k v → Bytes (putVal k v)
-val-bytes (num f) v h = bytes-bytes (f .width) v
-val-bytes (raw f) v h = h
-val-bytes (text f) v h = all-append _ v (replicate (f .width - length v) 0) .1 (h, all-replicate _ (f .width - length v) 0 (omega arith))
-
-pub row-bytes : (ks : List Column) (h : Vals ks) → PlainRow ks h → Bytes (putRow ks h)
-row-bytes [] h f = tt
-row-bytes (k ∷ ks) h f = all-append _ (putVal k (h .0)) (putRow ks (h .1)) .1 (val-bytes k (h .0) (f .0), row-bytes ks (h .1) (f .1))
 
 -- what stands at the fields' places is what stands one after another
 row-in : (place : ℕ) (ks : List Column) (s : List ℕ) → InLine place ks → getRow ks (drop place s) ≡ rowIn ks s

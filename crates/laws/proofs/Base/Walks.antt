@@ -3,7 +3,7 @@ use mathlib.Core.Bool.{Bool, true, false, cond}
 use mathlib.Core.List.{List, [], _∷_, _++_}
 use mathlib.Core.Logic.{_↔_}
 use mathlib.Core.Path.{_≡_, refl, ap, _∙_}
-use Prim.Native.Nat.{ℕ, _+_, _≤_}
+use Prim.Native.Nat.{ℕ, _≤_}
 use borrow.Author.Tests.{leb-true, le-leb}
 use native.Mathlib.Omega.{arith}
 use Rattle.layout.specs.Answers.Calls.{andThen}
@@ -85,19 +85,15 @@ answer-bind al (meets p z w) f = step (al z) (answer-bind al w f)
     step true e = e
     step false e = refl
 
-pub answer-must : {A : Type 0} (al : ℕ → Bool) (p : ℕ) (t : Bool) (n k : ℕ) (cs : List Check) (w : Walk A)
-    → answer al (checks p (must t n k ∷ cs) >> w) ≡ cond t (answer al (checks p cs >> w)) (refused n (p + k) 0)
-answer-must al p true n k cs w = refl
-answer-must al p false n k cs w = refl
-
-pub answer-dated : {A : Type 0} (al : ℕ → Bool) (p : ℕ) (t : Bool) (k z : ℕ) (cs : List Check) (w : Walk A)
-    → answer al (checks p (dated t z k ∷ cs) >> w) ≡ cond t (cond (al z) (answer al (checks p cs >> w)) (refused TOO-NEW (p + k) z)) (answer al (checks p cs >> w))
-answer-dated al p true k z cs w = refl
-answer-dated al p false k z cs w = refl
-
 -- what a setting allows
 pub allowed-append : (al : ℕ → Bool) (s t : List ℕ) → Allowed al (s ++ t) ↔ (Allowed al s × Allowed al t)
 allowed-append al s t = all-append (λ z. al z ≡ true) s t
+
+pub allowed-three : (al : ℕ → Bool) (a b c : List ℕ) → Allowed al (a ++ b ++ c) ↔ (Allowed al a × Allowed al b × Allowed al c)
+allowed-three al a b c =
+    let all = allowed-append al (a ++ b) c in
+    let both = allowed-append al a b in
+    (λ y. let u = all .0 y in let w = both .0 (u .0) in (w .0, w .1, u .1), λ y. all .1 (both .1 (y .0, y .1), y .2))
 
 pub allowed-always : (ys : List ℕ) → Allowed always ys
 allowed-always [] = tt

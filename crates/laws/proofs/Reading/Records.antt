@@ -1,7 +1,6 @@
 -- A record is read exactly as it is written.
 use mathlib.Core.Bool.{Bool, true, false, not, _||_, cond}
 use mathlib.Core.List.{List, [], _∷_, _++_, append-assoc}
-use mathlib.Core.Logic.{_↔_}
 use mathlib.Core.Path.{_≡_, refl, ap, ap₂, sym, _∙_, subst}
 use Prim.Native.Nat.{ℕ, _+_, _-_, _^_, _≤_, _<_}
 use borrow.Author.Tests.{leb-true, le-leb, leb-false, lt-leb, eqb-true, eq-eqb, ne-eqb, eqb-false}
@@ -21,13 +20,13 @@ use Rattle.layout.specs.Refusals.{SHORT, LENGTH}
 use Rattle.layout.specs.Shared.Mark.{mark, isMark, firstCount, takesMark, pointsOf}
 use Rattle.layout.specs.Shared.Reference.{referenceChecks, semantics}
 use Rattle.layout.specs.Sheet.{Item, Part, Record}
-use Rattle.layout.specs.Walk.{Walk, answer, given, _>>=_, _>>_, must, checks, holds, yearsOf, ends, Piece, piece, Pair, fill}
-use Rattle.layout.specs.Years.{since, mark-65535}
+use Rattle.layout.specs.Walk.{Walk, answer, given, _>>=_, _>>_, must, checks, holds, ends, Piece, piece, Pair, fill}
 use Rattle.laws.proofs.Base.Lists.{_&_, all-take, all-drop, some-flat}
 use Rattle.laws.proofs.Base.Readers.{Reads, Fills, Took, took-both, fill-fills}
 use Rattle.laws.proofs.Base.Rows.{Column, num, Vals, rowIn, putRow, FitRow, InLine, OkIn, row-back, row-on}
-use Rattle.laws.proofs.Base.Walks.{Allowed, allowed-append, allowed-none, given-inj, bind-assoc, bind-case, bind-on, checks-case, checks-on}
+use Rattle.laws.proofs.Base.Walks.{Allowed, allowed-none, given-inj, bind-assoc, bind-case, bind-on, checks-case, checks-on}
 use Rattle.laws.proofs.Encoding.Lengths.{length-record}
+use Rattle.laws.proofs.Encoding.Uses.{markYears, record-uses}
 use Rattle.laws.proofs.Reading.Items.{item-reads, item-grows}
 use Rattle.laws.proofs.Reading.Parts.{FineMetric, metricOf, metric-fills}
 
@@ -221,23 +220,6 @@ record-fine al xs ps is bs room cl cr cp b =
       marked,
     )
 
--- the years of a record, in three parts
-abbrev markYears : Bool → List ℕ
-markYears marked = cond marked (since mark-65535 ∷ []) []
-
-years-in : (al : ℕ → Bool) (r : Record)
-    → Allowed al (recordYears r)
-    ↔ (Allowed al (yearsOf (referenceChecks 20 21 22 (r .reference))) × Allowed al (markYears (takesMark (r .first .points)))
-    × Allowed al (flat itemYears (r .items)))
-unfolding recordYears
-years-in al r =
-    let a : List ℕ = yearsOf (referenceChecks 20 21 22 (r .reference)) in
-    let b : List ℕ = markYears (takesMark (r .first .points)) in
-    let c : List ℕ = flat itemYears (r .items) in (
-      λ y. let u = allowed-append al (a ++ b) c .0 y in let w = allowed-append al a b .0 (u .0) in (w .0, w .1, u .1),
-      λ y. allowed-append al (a ++ b) c .1 (allowed-append al a b .1 (y .0, y .1), y .2),
-    )
-
 record-sound : (al : ℕ → Bool) (p : ℕ) (xs : List ℕ) → Bytes xs → (v : Piece Record) → answer al (recordWalk p xs) ≡ given v
     → Took al encodeRecord FineRecord recordYears xs v
 unfolding recordWalk recordWith countChecks
@@ -257,7 +239,7 @@ record-sound al p xs bs v e =
     let b = body-back al h (p + Field.size) (metricIn (headerIn xs) xs) (semanticsIn (headerIn xs) xs) bm br r er in
     let f = record-fine al xs (b .0) (b .1) bs (leb-true _ _ (c .0)) cl cr cp (b .2) in
     let ym : Allowed al (markYears (takesMark (b .0 .first .points))) = subst (λ z. Allowed al (markYears z)) (f .3) yp in
-    let ya : Allowed al (recordYears (recordOf h (b .0) (b .1))) = years-in al (recordOf h (b .0) (b .1)) .1 (yr, ym, b .2 .years) in
+    let ya : Allowed al (recordYears (recordOf h (b .0) (b .1))) = record-uses al (recordOf h (b .0) (b .1)) .1 (yr, ym, b .2 .years) in
     subst (λ u. Took al encodeRecord FineRecord recordYears xs u) (ap (λ r. piece r (h .total)) (b .3) ∙ given-inj g) (f .0, ya, sym (f .1), f .2)
 
 abbrev headerOf : Vals columns → Header
@@ -323,7 +305,7 @@ record-complete al p r x f y =
     let S : List ℕ = encodeSemantics r in
     let h : Header = headerFor r in
     let mk = mark-on (r .first .points) (r .word) (f .counted) in
-    let ya = years-in al r .0 y in
+    let ya = record-uses al r .0 y in
     let len : length xs ≡ 32 + length M + length S + length x = omega (arith, length-append (encodeRecord r) x, length-record r) in
     let after : drop 32 xs ≡ M ++ (S ++ x) = ap (λ l. drop 32 (l ++ x)) (record-is r) ∙ append-assoc M S x in
     let left : 32 + length M + length S - 32 - length M ≡ length S = omega arith in

@@ -1,7 +1,6 @@
 -- A sheet is read exactly as it is written, and which settings read it.
 use mathlib.Core.Bool.{Bool, true}
 use mathlib.Core.List.{List, _++_}
-use mathlib.Core.Logic.{_↔_}
 use mathlib.Core.Path.{_≡_, refl, ap, ap₂, sym, _∙_, subst}
 use Prim.Native.Nat.{ℕ, _^_, _≤_, _<_}
 use borrow.Author.Tests.{leb-true, le-leb, eqb-true, eq-eqb}
@@ -25,10 +24,11 @@ use Rattle.laws.proofs.Base.Lists.{_&_, all-drop}
 use Rattle.laws.proofs.Base.Readers.{Fills, Law, times-reads, whole-fills}
 use Rattle.laws.proofs.Base.Rows.{rowIn, putRow, FitRow, OkIn, row-back, row-on, ok-on, length-row}
 use Rattle.laws.proofs.Base.Texts.{zeros-back}
-use Rattle.laws.proofs.Base.Walks.{Allowed, allowed-append, given-inj, bind-case, bind-on, checks-case, checks-on}
+use Rattle.laws.proofs.Base.Walks.{Allowed, given-inj, bind-case, bind-on, checks-case, checks-on}
 use Rattle.laws.proofs.Reading.Heads.{columns, in-line, rowOf, named, head-is, head-fits}
 use Rattle.laws.proofs.Reading.Records.{record-reads}
 use Rattle.laws.proofs.Encoding.Sums.{sum-fits}
+use Rattle.laws.proofs.Encoding.Uses.{sheet-uses}
 
 records-fill : (al : ℕ → Bool) (n : ℕ)
     → Fills al (whole LEFT-OVER (times n recordWalk)) (flat encodeRecord) (λ l. (length l ≡ n) × All FineRecord l) (flat recordYears)
@@ -55,20 +55,6 @@ encode-is t = with-is t (sheetSum t)
 
 four-zeros : (l : List ℕ) → length l ≡ 4 → zeros l ≡ true → replicate 4 0 ≡ l
 four-zeros l h e = sym (zeros-back l e ∙ ap (λ n. replicate n 0) h)
-
--- the years of a sheet, in three parts
-years-in : (al : ℕ → Bool) (t : Sheet)
-    → Allowed al (years t)
-    ↔ (Allowed al (yearsOf (restChecks (t .head .rest))) × Allowed al (yearsOf (carriedChecks (t .head .carried)))
-    × Allowed al (flat recordYears (t .records)))
-unfolding years
-years-in al t =
-    let a : List ℕ = yearsOf (restChecks (t .head .rest)) in
-    let b : List ℕ = yearsOf (carriedChecks (t .head .carried)) in
-    let c : List ℕ = flat recordYears (t .records) in (
-      λ y. let u = allowed-append al (a ++ b) c .0 y in let w = allowed-append al a b .0 (u .0) in (w .0, w .1, u .1),
-      λ y. allowed-append al (a ++ b) c .1 (allowed-append al a b .1 (y .0, y .1), y .2),
-    )
 
 -- what the checks show of the bytes s of a sheet with the records l
 sheet-fine : (s : List ℕ) (l : List Record) → Bytes s → holds (sizeChecks s) → holds (passportChecks s) → holds (restChecks (bytesIn Passport.rest s))
@@ -133,7 +119,7 @@ sheet-sound al s bs t e =
     bind-case al (whole LEFT-OVER (times (numberIn Descriptor.count s) recordWalk) start (drop start s)) _ t e6 λ l el g.
     let f = records-fill al (numberIn Descriptor.count s) .sound start (drop start s) (all-drop _ start s bs) l el in
     let x = sheet-fine s l bs c1 c2 c3 c4 c5 c6 (f .0 .0) (f .0 .1) (f .2) in
-    rw (← (given-inj g)) (x .0, years-in al (record { head = headIn s; records = l }) .1 (y3, y5, f .1), x .1)
+    rw (← (given-inj g)) (x .0, sheet-uses al (record { head = headIn s; records = l }) .1 (y3, y5, f .1), x .1)
 
 pub sheet-complete : (al : ℕ → Bool) (t : Sheet) → Fine t → Allowed al (years t) → answer al (sheetWalk (encode t)) ≡ given t
 unfolding sheetWalk sizeChecks passportChecks descriptorChecks reservedChecks
@@ -143,7 +129,7 @@ sheet-complete al t f y =
     let count : ℕ = length (t .records) in
     let rs : List ℕ = flat encodeRecord (t .records) in
     let h = rowOf (t .head) sum count in
-    let ya = years-in al t .0 y in
+    let ya = sheet-uses al t .0 y in
     let fits : FitRow columns h = head-fits (t .head) sum count (f .head) (sum-fits t f) (f .count) in
     let is : s ≡ putRow columns h ++ rs = encode-is t in
     let row : rowIn columns s ≡ h = rw is (row-on columns in-line h rs fits) in

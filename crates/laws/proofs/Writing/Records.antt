@@ -22,7 +22,8 @@ use Rattle.layout.specs.Writing.Rows.{RecordRow, rowIn, roomRules, nameRules, c
 use Rattle.layout.specs.Writing.Tables.{table, join, Taken, taken, flattenHeader, flattenRecord}
 use Rattle.laws.proofs.Base.Chains.{Hold, four-case, four-on}
 use Rattle.laws.proofs.Base.Lists.{_&_, both-true}
-use Rattle.laws.proofs.Base.Walks.{Allowed, allowed-append}
+use Rattle.laws.proofs.Base.Walks.{Allowed}
+use Rattle.laws.proofs.Encoding.Uses.{record-uses}
 use Rattle.laws.proofs.Writing.Inside.{flattenInside, inside-numbers, recordOf, Inside, inside-sound, inside-complete}
 use Rattle.laws.proofs.Writing.Parts.{FineFirst, firstYears}
 use Rattle.laws.proofs.Writing.Takes.{Takes, Took, table-path, join-assoc}
@@ -125,15 +126,7 @@ reference-years a b c d e f r = refl
 record-allowed : (al : ℕ → Bool) (r : Record)
     → Allowed al (recordYears r)
     ↔ (Allowed al (yearsOf (referenceChecks 3 3 3 (r .reference))) × Allowed al (firstYears (r .first)) × Allowed al (flat itemYears (r .items)))
-unfolding recordYears
-record-allowed al r =
-    let ref = yearsOf (referenceChecks 20 21 22 (r .reference)) in
-    let both = allowed-append al ref (firstYears (r .first)) in
-    let all = allowed-append al (ref ++ firstYears (r .first)) (flat itemYears (r .items)) in
-    rw (reference-years 3 3 3 20 21 22 (r .reference)) (
-      λ y. let a = all .0 y in let b = both .0 (a .0) in (b .0, b .1, a .1),
-      λ y. all .1 (both .1 (y .0, y .1), y .2),
-    )
+record-allowed al r = rw (reference-years 3 3 3 20 21 22 (r .reference)) (record-uses al r)
 
 -- the first eight of at least eight numbers, and the others
 eight : (l : List ℕ) → 8 ≤ length l

@@ -1,6 +1,6 @@
 -- The writer takes exactly the heads and tables of fine sheets, and a setting decides by the years that the sheet uses.
 use mathlib.Core.Bool.{Bool, true, false, not}
-use mathlib.Core.List.{List, [], _∷_, _++_}
+use mathlib.Core.List.{List, [], _∷_}
 use mathlib.Core.Logic.{_↔_}
 use mathlib.Core.Path.{_≡_, refl, _∙_, subst}
 use Prim.Native.Nat.{ℕ, _≤_}
@@ -8,24 +8,25 @@ use borrow.Author.Tests.{leb-true, le-leb, ltb-true, lt-ltb, not-true}
 use lib.Dec.{eqb, ltb}
 use lib.ListN.{length}
 use native.Mathlib.Omega.{arith}
-use Rattle.layout.specs.Bytes.{All, Bytes, Field, flat}
+use Rattle.layout.specs.Bytes.{All, Bytes, Field}
 use Rattle.layout.specs.Fields.{limit}
 use Rattle.layout.specs.Fields.Descriptor
 use Rattle.layout.specs.Fields.Passport
 use Rattle.layout.specs.Layout.Encode.{encode}
 use Rattle.layout.specs.Layout.Fine.{Fits, Fills, FineHead, Fine}
-use Rattle.layout.specs.Layout.Uses.{recordYears, years}
+use Rattle.layout.specs.Layout.Uses.{years}
 use Rattle.layout.specs.Shared.Carried.{restChecks, carriedChecks}
 use Rattle.layout.specs.Shared.Texts.{noZero, isText, textFits, FineText}
 use Rattle.layout.specs.Sheet.{Head, Sheet, Table}
-use Rattle.layout.specs.Walk.{ends, given, answer, yearsOf}
+use Rattle.layout.specs.Walk.{ends, given, answer}
 use Rattle.layout.specs.Writing.Rows.{rowsWalk}
 use Rattle.layout.specs.Writing.Sheets.{titleRules, headWalk, limitRules, tableWalk}
 use Rattle.layout.specs.Writing.Tables.{flatten}
 use Rattle.laws.proofs.Base.Chains.{Hold, four-case, four-on}
 use Rattle.laws.proofs.Base.Lists.{_&_, both-true}
 use Rattle.laws.proofs.Base.Walks.{given-inj, bind-case, bind-on, checks-case, checks-on}
-use Rattle.laws.proofs.Base.Walks.{Allowed, allowed-append}
+use Rattle.laws.proofs.Base.Walks.{Allowed}
+use Rattle.laws.proofs.Encoding.Uses.{sheet-uses}
 use Rattle.laws.proofs.Encoding.Lengths.{length-records, count-records}
 use Rattle.laws.proofs.Writing.Limits.{all-fine, all-near}
 use Rattle.laws.proofs.Writing.Rows.{rows-back, rows-on}
@@ -99,21 +100,6 @@ head-on h f = (
   f .carriedHolds,
 )
 
--- a sheet's years are allowed where those of its head and of its records are
-years-allowed : (al : ℕ → Bool) (u : Sheet)
-    → Allowed al (years u)
-    ↔ (Allowed al (yearsOf (restChecks (u .head .rest))) × Allowed al (yearsOf (carriedChecks (u .head .carried)))
-    × Allowed al (flat recordYears (u .records)))
-unfolding years
-years-allowed al u =
-    let rest = yearsOf (restChecks (u .head .rest)) in
-    let carried = yearsOf (carriedChecks (u .head .carried)) in
-    let both = allowed-append al rest carried in
-    let all = allowed-append al (rest ++ carried) (flat recordYears (u .records)) in (
-      λ y. let a = all .0 y in let b = both .0 (a .0) in (b .0, b .1, a .1),
-      λ y. all .1 (both .1 (y .0, y .1), y .2),
-    )
-
 -- The writer at any allowed years
 
 pub table-sound : (al : ℕ → Bool) (h : Head) (t : Table) → Typed h → Bytes (t .bytes) → (u : Sheet) → answer al (tableWalk h t) ≡ given u
@@ -135,7 +121,7 @@ table-sound al h t ty bs u e =
         count = omega (arith, count-records l);
         records = all-fine l (omega arith) (r .0);
       },
-      years-allowed al v .1 (y .1, y .3, r .1),
+      sheet-uses al v .1 (y .1, y .3, r .1),
       refl,
       r .2,
     )
@@ -144,7 +130,7 @@ pub table-complete : (al : ℕ → Bool) (u : Sheet) → Fine u → Allowed al (
 unfolding tableWalk headWalk titleRules limitRules
 table-complete al u f y =
     let h : Head = u .head in
-    let z = years-allowed al u .0 y in
+    let z = sheet-uses al u .0 y in
     four-on al 0 (titleRules h) (restChecks (h .rest)) (textFits Descriptor.designation (h .designation2) ∷ []) (carriedChecks (h .carried)) _
     (head-on h (f .head)) (tt, z .0, tt, z .1)
     ∙ bind-on al (rowsWalk (flatten (u .records))) _ (u .records) (rows-on al (u .records) (all-near (u .records) (f .records)) (z .2))

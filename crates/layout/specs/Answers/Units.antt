@@ -76,3 +76,11 @@ numbers : (numberOf (As.Short 65535) ≡ Is.Whole (pos 65535)) × (numberOf (As.
     × (numberOf (As.Double 0xFFF8000000000000) ≡ Is.NotNumber 0xFFF8000000000000)
 unfolding numberOf nanBits
 numbers = (refl, refl, refl, refl, refl, refl)
+
+-- by bytes 21 and 22
+abbrev of : ℕ → ℕ → Reference
+of b21 b22 = record { byte20 = 0; byte21 = b21; byte22 = b22 }
+
+elements : (planarElement (of 0 0) 7 ≡ As.Short 7) × (planarElement (of 0 4) 7 ≡ As.Single 7) × (planarElement (of 4 0) 7 ≡ As.Long 7) × (planarElement (of 4 4) 7 ≡ As.Double 7)
+    × (heightElement (of 0 2) 7 ≡ As.Single 7) × (heightElement (of 4 2) 7 ≡ As.Single 7) × (heightElement (of 0 6) 7 ≡ As.Single 7) × (heightElement (of 4 6) 7 ≡ As.Double 7)
+elements = (refl, refl, refl, refl, refl, refl, refl, refl)
