@@ -1,14 +1,14 @@
--- The theorems about document 01's definitions.
-pub mod Samples
-pub mod Marked
-pub mod Cases
-pub mod Base
-pub mod Encoding
-pub mod Reading
-pub mod Writing
+-- The theorems about document 01's definitions: first what is promised, then the cases, then what the theorems rest on.
 pub mod Exact
 pub mod Years
 pub mod Newest
-pub mod Called
 pub mod Again
 pub mod Bounds
+pub mod Marked
+pub mod Cases
+pub mod Samples
+pub mod Called
+pub mod Encoding
+pub mod Reading
+pub mod Writing
+pub mod Base
