@@ -1,0 +1,11 @@
+use denote.Ref.{now}
+use Rattle.fields.proofs.Laws.{rest-is}
+use borrow.Author.Needs.{needs}
+use Rattle.fields.proofs.numbers.rest.Statement.{statement}
+use Rattle.fields.proofs.numbers.rest.Tie as tie
+
+returns : tie.Need-returns
+returns c = rest-is (now (c .before .args .s)) (c .before .args .p)
+
+pub rest-spec : {M : Type 1} → statement M
+rest-spec = tie.close (tie.spec (λ c. search needs) (λ c. search needs) (λ c. search needs) returns)

@@ -1,0 +1,10 @@
+use Rattle.fields.proofs.Laws.{number-one}
+use borrow.Author.Needs.{needs}
+use Rattle.fields.proofs.numbers.u8_at.Statement.{statement}
+use Rattle.fields.proofs.numbers.u8_at.Tie as tie
+
+returns : tie.Need-returns
+returns c = rw number-one
+
+pub u8-at-spec : {M : Type 1} → statement M
+u8-at-spec = tie.close (tie.spec (λ c. search needs) returns)

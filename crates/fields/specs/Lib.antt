@@ -1,0 +1,1 @@
+-- What code answers on its way: a step so far, and the next.

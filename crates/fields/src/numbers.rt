@@ -1,0 +1,54 @@
+// Numbers of a width at a place, and parts of a slice as the definitions write them.
+ghost use mathlib.Core.Path.{_≡_};
+ghost use Prim.Native.Nat.{_+_, _≤_};
+ghost use lib.ListN.{length, drop, take};
+ghost use Rattle.layout.specs.Bytes.{number};
+
+pub fn u8_at(s: &[u8], p: usize) -> u8
+    requires { ⌜ p + 1 ≤ length (now s) ⌝ }
+    ensures { λ r. ⌜ r ≡ number 1 (drop p (now (s .entry))) ⌝ }
+{
+    s[p]
+}
+
+pub fn u16_at(s: &[u8], p: usize) -> u16
+    requires { ⌜ p + 2 ≤ length (now s) ⌝ }
+    ensures { λ r. ⌜ r ≡ number 2 (drop p (now (s .entry))) ⌝ }
+{
+    let lo = u8_at(s, p);
+    let hi = u8_at(s, p + 1);
+    (lo as u16) + 256 * (hi as u16)
+}
+
+pub fn u32_at(s: &[u8], p: usize) -> u32
+    requires { ⌜ p + 4 ≤ length (now s) ⌝ }
+    ensures { λ r. ⌜ r ≡ number 4 (drop p (now (s .entry))) ⌝ }
+{
+    let lo = u16_at(s, p);
+    let hi = u16_at(s, p + 2);
+    (lo as u32) + 65536 * (hi as u32)
+}
+
+pub fn u64_at(s: &[u8], p: usize) -> u64
+    requires { ⌜ p + 8 ≤ length (now s) ⌝ }
+    ensures { λ r. ⌜ r ≡ number 8 (drop p (now (s .entry))) ⌝ }
+{
+    let lo = u32_at(s, p);
+    let hi = u32_at(s, p + 4);
+    (lo as u64) + 4294967296 * (hi as u64)
+}
+
+// The n bytes at p, and all bytes from p on.
+pub fn part(s: &[u8], p: usize, n: usize) -> &[u8]
+    requires { ⌜ p + n ≤ length (now s) ⌝ }
+    ensures { λ r. ⌜ now r ≡ take n (drop p (now (s .entry))) ⌝ }
+{
+    &s[p..p + n]
+}
+
+pub fn rest(s: &[u8], p: usize) -> &[u8]
+    requires { ⌜ p ≤ length (now s) ⌝ }
+    ensures { λ r. ⌜ now r ≡ drop p (now (s .entry)) ⌝ }
+{
+    &s[p..]
+}
