@@ -1,1 +1,3 @@
 -- What code answers on its way: a step so far, and the next.
+pub mod Steps
+pub mod Flags

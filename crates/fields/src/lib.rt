@@ -3,6 +3,8 @@
 //
 // Relied on: the definitions of `layout`, and the laws of `laws`. Promised: each contract is an equation with a definition. What has a
 // `requires` here is called by the library's own crates only, after they have seen that it holds.
+pub mod flags;
 pub mod numbers;
+pub mod steps;
 pub mod sums;
 pub mod texts;

@@ -1,0 +1,19 @@
+use Rattle.fields.proofs.Chain.{as-checks}
+use Rattle.fields.specs.Flags.{carried-rules}
+use borrow.Author.Needs.{needs}
+use Rattle.fields.proofs.flags.carried.Statement.{statement}
+use Rattle.fields.proofs.flags.carried.Tie as tie
+
+returns : tie.Need-returns
+returns c = as-checks (rw (c .before .before .before .before .u8-at .ensures, c .before .before .before .u8-at2 .ensures, c .before .before .u8-at3 .ensures, c .before .u8-at4 .ensures) (carried-rules _)) (c .carried-rules .ensures)
+
+pub carried-spec : {M : Type 1} → statement M
+carried-spec =
+    tie.close
+    (tie.spec
+    (λ c κs. search needs)
+    (λ c κs. search needs)
+    (λ c κs. search needs)
+    (λ c κs. search needs)
+    (λ c κs. search needs)
+    returns)

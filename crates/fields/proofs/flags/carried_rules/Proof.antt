@@ -1,0 +1,25 @@
+use Rattle.fields.proofs.Chain.{_▸_}
+use borrow.Author.Needs.{needs}
+use Rattle.fields.proofs.flags.carried_rules.Statement.{statement}
+use Rattle.fields.proofs.flags.carried_rules.Tie as tie
+
+returns : tie.Need-returns
+returns c =
+    c .before .before .before .before .before .demand .ensures _
+    ▸ c .before .before .before .before .demand2 .ensures _
+    ▸ c .before .before .before .demand3 .ensures _
+    ▸ c .before .before .demand4 .ensures _
+    ▸ c .before .feature .ensures
+    ▸ c .feature2 .ensures
+
+pub carried-rules-spec : {M : Type 1} → statement M
+carried-rules-spec =
+    tie.close
+    (tie.spec
+    (λ c κs. search needs)
+    (λ c κs. search needs)
+    (λ c κs. search needs)
+    (λ c κs. search needs)
+    (λ c κs. search needs)
+    (λ c κs. search needs)
+    returns)

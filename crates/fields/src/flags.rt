@@ -1,0 +1,123 @@
+// The lists of checks that the reader and the writer share: the reference bytes of a record, the rest of the passport, and the four
+// carried bytes of the descriptor.
+ghost use mathlib.Core.Path.{_≡_};
+ghost use Prim.Native.Nat.{ℕ, _+_, _≤_, _<_};
+ghost use lib.ListN.{length};
+ghost use Rattle.fields.specs.Flags.{restRules, carriedRules};
+ghost use Rattle.fields.specs.Steps.{Next};
+ghost use Rattle.layout.specs.Shared.Carried.{restChecks, carriedChecks};
+ghost use Rattle.layout.specs.Shared.Reference.{referenceChecks};
+use crate::numbers;
+use crate::steps::Step;
+use crate::steps::demand;
+use crate::steps::feature;
+use crate::texts;
+
+// The reference bytes, at place + k, place + l and place + m.
+pub fn reference(
+    so_far: Step,
+    b20: u8,
+    b21: u8,
+    b22: u8,
+    place: usize,
+    k: usize,
+    l: usize,
+    m: usize,
+    year: u32,
+) -> Step
+    requires { ⌜ (place + k < 18446744073709551616) × (place + l < 18446744073709551616) × (place + m < 18446744073709551616) ⌝ }
+    ensures { λ r. ⌜ Next «so_far» year place (referenceChecks k l m (record { byte20 = b20; byte21 = b21; byte22 = b22 })) r ⌝ }
+{
+    let loc = b20 % 16;
+    let a = demand(so_far, (loc <= 5) & (b20 / 32 % 8 == 0), 7, place, k);
+    let a = feature(a, b20 / 16 % 2 == 1, 2016, place, k, year);
+    let a = feature(a, b21 % 2 == 1, 2015, place, l, year);
+    let a = feature(a, b21 / 8 % 2 == 1, 2008, place, l, year);
+    let a = feature(a, b21 / 16 % 2 == 1, 2008, place, l, year);
+    let a = feature(a, b21 / 32 % 2 == 1, 2014, place, l, year);
+    let a = feature(a, b21 / 64 % 2 == 1, 2014, place, l, year);
+    let a = feature(a, b21 / 128 % 2 == 1, 2017, place, l, year);
+    let a = demand(a, !(b21 / 8 % 2 == 1), 9, place, l);
+    let text = (!(b22 / 8 % 2 == 1) | (loc == 3)) | (loc == 5);
+    let a = demand(a, !(b22 % 2 == 1) & text, 7, place, m);
+    let a = feature(a, !(b22 / 64 % 4 == 0), 2004, place, m, year);
+    demand(a, !(b22 / 16 % 2 == 1), 9, place, m)
+}
+
+// The rest of the passport, from what stands in it; north and east say whether an offset has a byte that is not zero.
+fn rest_rules(
+    so_far: Step,
+    flags: u8,
+    labels: u8,
+    accuracy: u8,
+    sorting: u8,
+    epsg: u32,
+    north: bool,
+    east: bool,
+    year: u32,
+) -> Step
+    ensures { λ r. ⌜ Next «so_far» year 0 (restRules flags labels accuracy sorting epsg north east) r ⌝ }
+{
+    let real = flags / 8 % 4;
+    let state = ((flags % 4 == 3) & ((real == 0) | (real == 3))) & (flags / 32 % 4 == 0);
+    let a = demand(so_far, state & !(flags / 4 % 2 == 1), 7, 0, 96);
+    let a = demand(a, labels <= 2, 7, 0, 97);
+    let a = demand(a, accuracy <= 3, 7, 0, 98);
+    let a = feature(a, !(accuracy == 0), 2006, 0, 98, year);
+    let a = demand(a, sorting / 2 % 128 == 0, 7, 0, 99);
+    let a = feature(a, sorting % 2 == 1, 2008, 0, 99, year);
+    let a = feature(a, !(epsg == 0), 2017, 0, 100, year);
+    let a = feature(a, north, 2004, 0, 384, year);
+    feature(a, east, 2004, 0, 392, year)
+}
+
+// The same from its 304 bytes.
+pub fn rest_of_passport(so_far: Step, r: &[u8], year: u32) -> Step
+    requires { ⌜ 304 ≤ length (now r) ⌝ }
+    ensures { λ o. ⌜ Next «so_far» year 0 (restChecks (now (r .entry))) o ⌝ }
+{
+    let flags = numbers::u8_at(r, 0);
+    let labels = numbers::u8_at(r, 1);
+    let accuracy = numbers::u8_at(r, 2);
+    let sorting = numbers::u8_at(r, 3);
+    let epsg = numbers::u32_at(r, 4);
+    let north = !texts::all_zero(numbers::part(r, 288, 8));
+    let east = !texts::all_zero(numbers::part(r, 296, 8));
+    rest_rules(
+        so_far,
+        flags,
+        labels,
+        accuracy,
+        sorting,
+        epsg,
+        north,
+        east,
+        year,
+    )
+}
+
+// The descriptor's carried bytes, from what stands in them.
+fn carried_rules(so_far: Step, flags: u8, labels: u8, secrecy: u8, keeping: u8, year: u32) -> Step
+    ensures { λ r. ⌜ Next «so_far» year 0 (carriedRules flags labels secrecy keeping) r ⌝ }
+{
+    let real = flags / 8 % 4;
+    let state = ((flags % 4 == 3) & ((real == 0) | (real == 3))) & (flags / 32 % 4 == 0);
+    let a = demand(so_far, state, 7, 0, 444);
+    let a = demand(a, labels <= 2, 7, 0, 445);
+    let a = demand(a, secrecy <= 5, 7, 0, 446);
+    let a = demand(a, keeping / 4 % 64 == 0, 7, 0, 447);
+    let a = feature(a, keeping % 2 == 1, 2017, 0, 447, year);
+    feature(a, keeping / 2 % 2 == 1, 2017, 0, 447, year)
+}
+
+// The same from the four bytes.
+pub fn carried(so_far: Step, c: &[u8], year: u32) -> Step
+    requires { ⌜ 4 ≤ length (now c) ⌝ }
+    ensures { λ o. ⌜ Next «so_far» year 0 (carriedChecks (now (c .entry))) o ⌝ }
+{
+    let flags = numbers::u8_at(c, 0);
+    let labels = numbers::u8_at(c, 1);
+    let secrecy = numbers::u8_at(c, 2);
+    let keeping = numbers::u8_at(c, 3);
+    carried_rules(so_far, flags, labels, secrecy, keeping, year)
+}
