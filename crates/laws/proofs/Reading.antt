@@ -4,3 +4,4 @@ pub mod Parts
 pub mod Records
 pub mod Heads
 pub mod Sheets
+pub mod Hops

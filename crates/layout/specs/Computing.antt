@@ -1,5 +1,5 @@
 -- A proof that computes with the definitions says `unfolding computing`: the walks, the layout and the answers then unfold.
-use Rattle.layout.specs.Answers.Calls.{reading, unfolded, asked, written}
+use Rattle.layout.specs.Answers.Calls.{reading, unfolded, roomy, asked, written}
 use Rattle.layout.specs.Answers.Enums.{checkedOf, foundOf, headedOf, writtenOf, unitIn, cornersIn}
 use Rattle.layout.specs.Answers.Corners.{cornersOf}
 use Rattle.layout.specs.Answers.Units.{unitOf, numberOf}
@@ -20,5 +20,5 @@ use Rattle.layout.specs.Writing.Sheets.{titleRules, headWalk, limitRules
 use Rattle.layout.specs.Writing.Tables.{flattenHeader, flattenPart, flattenItem, flattenRecord, flatten}
 
 unfoldable pub computing : Unit {0}
-unfolding restChecks carriedChecks byte20 byte21 byte22 referenceChecks visibilityOf itemChecks itemWalk textWalk partWalk subobjectWalk metricWalk lengthChecks countChecks headerWalk bodyWalk recordWith recordWalk sizeChecks passportChecks descriptorChecks reservedChecks sheetWalk encodeItem encodeText encodePart encodeSubobject encodeMetric encodeSemantics encodeHeader encodeRecord encodeHead encodeWith sheetSum encode itemYears recordYears years flattenHeader flattenPart flattenItem flattenRecord flatten itemRules takeItem firstRules laterRules elementRules textRules takePart roomRules nameRules countRules rowRules takeInside rowWalk endRules rowsWalk titleRules headWalk limitRules tableWalk reading unfolded asked written checkedOf foundOf headedOf writtenOf unitIn cornersIn cornersOf unitOf numberOf semanticValue
+unfolding restChecks carriedChecks byte20 byte21 byte22 referenceChecks visibilityOf itemChecks itemWalk textWalk partWalk subobjectWalk metricWalk lengthChecks countChecks headerWalk bodyWalk recordWith recordWalk sizeChecks passportChecks descriptorChecks reservedChecks sheetWalk encodeItem encodeText encodePart encodeSubobject encodeMetric encodeSemantics encodeHeader encodeRecord encodeHead encodeWith sheetSum encode itemYears recordYears years flattenHeader flattenPart flattenItem flattenRecord flatten itemRules takeItem firstRules laterRules elementRules textRules takePart roomRules nameRules countRules rowRules takeInside rowWalk endRules rowsWalk titleRules headWalk limitRules tableWalk reading unfolded roomy asked written checkedOf foundOf headedOf writtenOf unitIn cornersIn cornersOf unitOf numberOf semanticValue
 computing = tt

@@ -4,3 +4,4 @@ pub mod Items
 pub mod Parts
 pub mod Records
 pub mod Sheets
+pub mod Hops

@@ -45,7 +45,7 @@ mark-back points word h e = go (isMark points) refl e
         (rw l, l, rw l)
 
 -- the same by the first count of a fine record
-mark-on : (count word : ℕ) → (not (takesMark count) || eqb word count) ≡ true
+pub mark-on : (count word : ℕ) → (not (takesMark count) || eqb word count) ≡ true
     → (firstCount (pointsOf count) word ≡ count) × (isMark (pointsOf count) ≡ takesMark count)
     × ((not (isMark (pointsOf count)) || leb mark word) ≡ true) × (pointsOf count < 65536)
 mark-on count word e = go (takesMark count) refl e
@@ -242,7 +242,7 @@ record-sound al p xs bs v e =
     let ya : Allowed al (recordYears (recordOf h (b .0) (b .1))) = record-uses al (recordOf h (b .0) (b .1)) .1 (yr, ym, b .2 .years) in
     subst (λ u. Took al encodeRecord FineRecord recordYears xs u) (ap (λ r. piece r (h .total)) (b .3) ∙ given-inj g) (f .0, ya, sym (f .1), f .2)
 
-abbrev headerOf : Vals columns → Header
+abbrev pub headerOf : Vals columns → Header
 headerOf u =
     let c = u .1 .1 .1 in
     let b = c .1 .1 .1 in
@@ -262,7 +262,7 @@ headerOf u =
     }
 
 -- a fine record's header, as it is written
-abbrev headerFor : Record → Header
+abbrev pub headerFor : Record → Header
 headerFor r = headerOf (rowOf r)
 
 body-for : (al : ℕ → Bool) (r : Record) → FineRecord r → Allowed al (flat itemYears (r .items))
@@ -282,7 +282,8 @@ body-for al r f y =
       rest-is = refl;
     }
 
-header-in : (r : Record) (xs x : List ℕ) → FineRecord r → xs ≡ encodeRecord r ++ x → headerIn xs ≡ headerFor r
+-- the header that is read of a fine record, as it is written
+pub header-in : (r : Record) (xs x : List ℕ) → FineRecord r → xs ≡ encodeRecord r ++ x → headerIn xs ≡ headerFor r
 header-in r xs x f is =
     let tail : List ℕ = encodeMetric r ++ encodeSemantics r in
     let mk = mark-on (r .first .points) (r .word) (f .counted) in

@@ -166,3 +166,17 @@ sheet-complete al t f y =
 
 pub sheet-law : Law sheetWalk encode Fine years
 sheet-law = record { sound = sheet-sound; complete = sheet-complete }
+
+-- what a sheet that is given has: its head as it stands in the bytes, and the records that the walk ends in
+pub sheet-ends : (al : ℕ → Bool) (s : List ℕ) (t : Sheet) → answer al (sheetWalk s) ≡ given t
+    → (t .head ≡ headIn s) × (answer al (whole LEFT-OVER (times (numberIn Descriptor.count s) recordWalk) start (drop start s)) ≡ given (t .records))
+unfolding sheetWalk
+sheet-ends al s t e =
+    checks-case al 0 (sizeChecks s) _ t e λ c1 y1 e1.
+    checks-case al 0 (passportChecks s) _ t e1 λ c2 y2 e2.
+    checks-case al 0 (restChecks (bytesIn Passport.rest s)) _ t e2 λ c3 y3 e3.
+    checks-case al 0 (descriptorChecks s) _ t e3 λ c4 y4 e4.
+    checks-case al 0 (carriedChecks (bytesIn Descriptor.carried s)) _ t e4 λ c5 y5 e5.
+    checks-case al 0 (reservedChecks s) _ t e5 λ c6 y6 e6.
+    bind-case al (whole LEFT-OVER (times (numberIn Descriptor.count s) recordWalk) start (drop start s)) _ t e6 λ l el g.
+    rw (← (given-inj g)) (refl, el)

@@ -2,9 +2,9 @@
 -- asked for, then ROOM")
 use Prim.Native.Nat.{ℕ, zero, suc, _+_}
 use mathlib.Core.Bool.{cond}
-use mathlib.Core.List.{List, [], _∷_}
+use mathlib.Core.List.{List, [], _∷_, _++_}
 use lib.Dec.{leb}
-use lib.ListN.{length}
+use lib.ListN.{length, drop}
 use Rattle.layout.specs.Layout.Encode.{encodeRecord, encode}
 use Rattle.layout.specs.Reading.Sheets.{start, sheetWalk}
 use Rattle.layout.specs.Refusals.{ROOM, ASK}
@@ -43,6 +43,18 @@ inRooms rooms t =
 
 unfoldable pub unfolded : ℕ → List ℕ → Rooms → Answer Table
 unfolded year s rooms = andThen (reading year s) (λ t. inRooms rooms (flatten (t .records)))
+
+-- the sheet, where its table fits the rooms
+unfoldable pub roomy : ℕ → List ℕ → Rooms → Answer Sheet
+roomy year s rooms = andThen (reading year s) (λ t. andThen (inRooms rooms (flatten (t .records))) (λ _. given t))
+
+-- What a lent output holds after a call. "A refusal [..] writes nothing. Success writes only the stated lengths." (01, The refusals)
+abbrev pub over : List ℕ → List ℕ → List ℕ
+over l before = l ++ drop (length l) before
+
+abbrev pub lent : {A : Type 0} → (A → List ℕ) → Answer A → List ℕ → List ℕ
+lent part (given a) before = over (part a) before
+lent part (refused number place year) before = before
 
 -- a record and where it starts
 pub record Placed : Type 0 where

@@ -1,0 +1,16 @@
+use mathlib.Core.Path.{ap}
+use borrow.Author.Tests.{eq-eqb, ne-eqb}
+use Rattle.views.proofs.Signed.{decimal}
+use Rattle.layout.specs.declared.SemanticValue.the-variants.{Number}
+use borrow.Author.Needs.{needs}
+use Rattle.views.proofs.values.integer.Statement.{statement}
+use Rattle.views.proofs.values.integer.Tie as tie
+
+returns : tie.Need-returns
+returns c = simp (eq-eqb _ _ (c .if1 .taken))
+
+returns-2 : tie.Need-returns-2
+returns-2 c = simp (ne-eqb _ _ (c .before .before .if1 .left)) (ap Number (decimal (c .before .signed .ok) (c .signed2 .ok) (c .before .signed .ensures) (c .signed2 .ensures)))
+
+pub integer-spec : {M : Type 1} → statement M
+integer-spec = tie.close (tie.spec returns (λ c κs. search needs) (λ c κs. search needs) returns-2)
