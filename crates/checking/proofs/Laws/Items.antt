@@ -1,0 +1,193 @@
+-- The ways out of an item, over plain variables.
+use mathlib.Core.Bool.{Bool, true, false, cond, not, _||_, _&&_}
+use mathlib.Core.List.{List, [], _∷_}
+use mathlib.Core.Path.{_≡_, refl, sym, ap, _∙_}
+use Prim.Native.Nat.{ℕ, zero, suc, _+_, _-_, _*_, _%_, _≤_, _<_}
+use borrow.Author.Tests.{le-leb, lt-leb, eq-eqb, ne-eqb, leb-true}
+use lib.Dec.{eqb, leb}
+use lib.ListN.{length, take, drop, length-drop}
+use lib.Seq.{drop-drop, length-take-le}
+use native.Mathlib.Nat.{add-zero, zero-add, suc-add}
+use native.Mathlib.Omega.{arith}
+use Rattle.checking.proofs.Laws.Fills.{Sized}
+use Rattle.checking.proofs.Laws.Steps.{checks-append, step-on, step-stop, step-holds}
+use Rattle.checking.specs.Items.{shapeOf, Shaped, shapeChecks, valueChecks, valueWalk}
+use Rattle.checking.specs.Tally.{tally, shown}
+use Rattle.checking.specs.declared.tally.Counted.{Counted}
+use Rattle.checking.specs.declared.tally.Counted.the-variants.{Fine, Refused}
+use Rattle.checking.specs.declared.items.Shape.{Shape}
+use Rattle.fields.specs.Steps.{Next}
+use Rattle.fields.specs.declared.steps.Step.{Step}
+use Rattle.fields.specs.declared.steps.Step.the-variants as Stp
+use Rattle.layout.specs.Answers.Enums.{refusal}
+use Rattle.layout.specs.Bytes.{number, numberIn, zeros}
+use Rattle.layout.specs.Reading.Items.{itemChecks, itemWalk, kindIn, valueAt, valueSize, itemSize, itemIn}
+use Rattle.layout.specs.Shared.Types.{Kind, narrow, wide, long, integer, double, unknown, isLong, goodLength, valueLength, closing, isClosed}
+use Rattle.layout.specs.Refusals.{LENGTH}
+use Rattle.layout.specs.Walk.{upTo, must, checks, _>>_, ends, piece}
+use Rattle.layout.specs.Writing.Tables.{flattenItem}
+use Rattle.layout.specs.declared.Refusal.{Refusal}
+use Rattle.laws.proofs.Base.Lists.{both-true}
+use Rattle.laws.proofs.Base.Walks.{given-inj, checks-case}
+
+never : false ≡ true → ⊥
+never e = let z : _≡_ {A = ℕ} 0 1 = cc in omega arith
+
+at-long : (k : Kind) → isLong k ≡ true → valueAt k ≡ 8
+at-long narrow e = absurd (never e)
+at-long wide e = absurd (never e)
+at-long long e = refl
+at-long (integer n) e = absurd (never e)
+at-long double e = absurd (never e)
+at-long unknown e = absurd (never e)
+
+size-long : (k : Kind) (scale stated : ℕ) → isLong k ≡ true → valueLength k scale stated ≡ stated
+size-long narrow scale stated e = absurd (never e)
+size-long wide scale stated e = absurd (never e)
+size-long long scale stated e = refl
+size-long (integer n) scale stated e = absurd (never e)
+size-long double scale stated e = absurd (never e)
+size-long unknown scale stated e = absurd (never e)
+
+size-short : (k : Kind) (scale stated : ℕ) → isLong k ≡ false → valueLength k scale stated ≡ valueLength k scale 0
+size-short narrow scale stated e = refl
+size-short wide scale stated e = refl
+size-short long scale stated e = absurd (never (sym e))
+size-short (integer n) scale stated e = refl
+size-short double scale stated e = refl
+size-short unknown scale stated e = refl
+
+module _ (xs : List ℕ) (k : Shape) (s : Shaped xs k) where
+  pub long-there : k .at ≤ length xs → k .long ≡ true → 8 ≤ length xs
+  long-there l e =
+      let a : k .at ≡ valueAt (kindIn xs) = ap (λ (z : Shape). z .at) (s .is) in
+      let f : isLong (kindIn xs) ≡ true = sym (ap (λ (z : Shape). z .long) (s .is)) ∙ e in
+      omega (arith, at-long (kindIn xs) f)
+
+  pub size-stated : (n : ℕ) → n ≡ number 4 (drop 4 xs) → k .long ≡ true → n ≡ valueSize xs
+  size-stated n h e =
+      let f : isLong (kindIn xs) ≡ true = sym (ap (λ (z : Shape). z .long) (s .is)) ∙ e in
+      h ∙ sym (size-long (kindIn xs) (number 1 (drop 3 xs)) (number 4 (drop 4 xs)) f)
+
+  pub size-known : k .long ≡ false → k .size ≡ valueSize xs
+  size-known e =
+      let f : isLong (kindIn xs) ≡ false = sym (ap (λ (z : Shape). z .long) (s .is)) ∙ e in
+      ap (λ (z : Shape). z .size) (s .is) ∙ sym (size-short (kindIn xs) (number 1 (drop 3 xs)) (number 4 (drop 4 xs)) f)
+
+-- the closing zeros, as they stand in the item
+drop-take : (a b : ℕ) (l : List ℕ) → drop a (take (a + b) l) ≡ take b (drop a l)
+drop-take zero b l = simp zero-add
+drop-take (suc a) zero [] = rw (suc-add a 0) refl
+drop-take (suc a) (suc b) [] = rw (suc-add a (suc b)) refl
+drop-take (suc a) b (x ∷ l) = rw (suc-add a b) (drop-take a b l)
+
+closed-is : (xs : List ℕ) (at size c used : ℕ) → used ≡ at + size → c ≤ size → used ≤ length xs
+    → zeros (drop (length (take size (drop at xs)) - c) (take size (drop at xs))) ≡ zeros (take c (drop (used - c) xs))
+closed-is xs at size c used e h l =
+    let n : length (take size (drop at xs)) ≡ size = length-take-le size (drop at xs) (omega (arith, length-drop at xs)) in
+    let d : size ≡ (size - c) + c = omega arith in
+    let i : used - c ≡ at + (size - c) = omega arith in
+    let t : take size (drop at xs) ≡ take ((size - c) + c) (drop at xs) = ap (λ k. take k (drop at xs)) d in
+    let j : drop (size - c) (drop at xs) ≡ drop (used - c) xs = drop-drop (size - c) at xs ∙ ap (λ k. drop k xs) (sym i) in
+    let u : drop (size - c) (take size (drop at xs)) ≡ take c (drop (used - c) xs) =
+    ap (λ l. drop (size - c) l) t ∙ drop-take (size - c) c (drop at xs) ∙ ap (λ l. take c l) j in
+    rw n (ap zeros u)
+
+good-is : (k : Kind) (n : ℕ) → goodLength k n ≡ (not (isLong k) || (eqb (n % 2) 0 && leb 2 n))
+good-is narrow n = refl
+good-is wide n = refl
+good-is long n = refl
+good-is (integer m) n = refl
+good-is double n = refl
+good-is unknown n = refl
+
+closing-under : (k : Kind) (scale stated : ℕ) → goodLength k (valueLength k scale stated) ≡ true → closing k ≤ valueLength k scale stated
+closing-under narrow scale stated h = omega arith
+closing-under wide scale stated h = omega arith
+closing-under long scale stated h = leb-true 2 stated (both-true (eqb (stated % 2) 0) (leb 2 stated) h .1)
+closing-under (integer n) scale stated h = omega arith
+closing-under double scale stated h = omega arith
+closing-under unknown scale stated h = omega arith
+
+module _ (y p : ℕ) (xs : List ℕ) (k : Shape) (s : Shaped xs k) (size : ℕ) (e : size ≡ valueSize xs) where
+  at-is : k .at ≡ valueAt (kindIn xs)
+  at-is = ap (λ (z : Shape). z .at) (s .is)
+
+  closing-is : k .closing ≡ closing (kindIn xs)
+  closing-is = ap (λ (z : Shape). z .closing) (s .is)
+
+  abbrev tests : Bool
+  tests = not (k .long) || (eqb (size % 2) 0 && leb 2 size)
+
+  length-is : goodLength (kindIn xs) (valueSize xs) ≡ tests
+  length-is = good-is (kindIn xs) (valueSize xs) ∙ rw (← e, ap (λ (z : Shape). z .long) (s .is)) refl
+
+  pub value-bad : tests ≡ false → Refused (refusal 12 (p + 4) 0) ≡ shown (tally flattenItem) y (valueWalk p xs)
+  unfolding valueWalk valueChecks
+  value-bad h = simp (length-is, h)
+
+  module _ (h : tests ≡ true) where
+    pub value-closes : k .closing ≤ size
+    value-closes = rw (closing-is, e) (closing-under (kindIn xs) (number 1 (drop 3 xs)) (number 4 (drop 4 xs)) (length-is ∙ h))
+
+    pub value-short : length xs < k .at + size → Refused (refusal 10 p 0) ≡ shown (tally flattenItem) y (valueWalk p xs)
+    unfolding valueWalk valueChecks
+    value-short l =
+        let m : leb (valueAt (kindIn xs) + valueSize xs) (length xs) ≡ false = lt-leb (valueAt (kindIn xs) + valueSize xs) (length xs) (omega (arith, at-is, e)) in
+        simp (length-is, h, m, add-zero)
+
+    module _ (l : k .at + size ≤ length xs) where
+      fits : leb (valueAt (kindIn xs) + valueSize xs) (length xs) ≡ true
+      fits = le-leb (valueAt (kindIn xs) + valueSize xs) (length xs) (omega (arith, at-is, e))
+
+      shut : isClosed (kindIn xs) (itemIn xs .value) ≡ zeros (take (k .closing) (drop (k .at + size - k .closing) xs))
+      shut =
+          rw (closing-is, at-is, e)
+          (closed-is xs (valueAt (kindIn xs)) (valueSize xs) (closing (kindIn xs)) (valueAt (kindIn xs) + valueSize xs) refl (omega (arith, value-closes, closing-is, e)) (omega (arith, at-is, e)))
+
+      pub value-open : zeros (take (k .closing) (drop (k .at + size - k .closing) xs)) ≡ false
+          → Refused (refusal 6 (p + (k .at + size - k .closing)) 0) ≡ shown (tally flattenItem) y (valueWalk p xs)
+      unfolding valueWalk valueChecks
+      value-open z = simp (length-is, h, fits, shut, z) (rw (at-is, e, closing-is) refl)
+
+      pub value-fine : zeros (take (k .closing) (drop (k .at + size - k .closing) xs)) ≡ true
+          → Fine (record { used = k .at + size; numbers = 4; elements = 0; bytes = size }) ≡ shown (tally flattenItem) y (valueWalk p xs)
+      unfolding valueWalk valueChecks flattenItem
+      value-fine z =
+          let n : length (take (valueSize xs) (drop (valueAt (kindIn xs)) xs)) ≡ valueSize xs = length-take-le _ _ (omega (arith, length-drop (valueAt (kindIn xs)) xs, at-is, e)) in
+          simp (length-is, h, fits, shut, z) (simp n (rw (at-is, e) refl))
+
+module _ (y p : ℕ) (xs : List ℕ) where
+  pub item-short : length xs < 4 → Refused (refusal 10 p 0) ≡ shown (tally flattenItem) y (itemWalk p xs)
+  unfolding itemWalk
+  item-short h = simp (lt-leb 4 (length xs) h, add-zero)
+
+  module _ (l : 4 ≤ length xs) (k : Shape) (e : k ≡ shapeOf (kindIn xs) (number 1 (drop 3 xs))) where
+    halves : itemWalk p xs ≡ (checks p (shapeChecks k (length xs)) >> valueWalk p xs)
+    unfolding itemWalk itemChecks valueWalk valueChecks
+    halves =
+        rw (e, le-leb 4 (length xs) l)
+        (checks-append p (shapeChecks (shapeOf (kindIn xs) (number 1 (drop 3 xs))) (length xs)) (valueChecks xs) (ends (piece (itemIn xs) (itemSize xs))))
+
+    module _ (r : Step) (n : Next Stp.Fine y p (shapeChecks k (length xs)) r) where
+      pub item-on : r ≡ Stp.Fine → (m : Counted) → m ≡ shown (tally flattenItem) y (valueWalk p xs) → m ≡ shown (tally flattenItem) y (itemWalk p xs)
+      item-on f m g = g ∙ sym (ap (shown (tally flattenItem) y) halves ∙ step-on y (tally flattenItem) p (shapeChecks k (length xs)) (valueWalk p xs) r n f)
+
+      pub item-stop : (q : Refusal) → r ≡ Stp.Refused q → Refused q ≡ shown (tally flattenItem) y (itemWalk p xs)
+      item-stop q f = step-stop y (tally flattenItem) p (shapeChecks k (length xs)) (valueWalk p xs) r n q f ∙ sym (ap (shown (tally flattenItem) y) halves)
+
+      pub item-starts : r ≡ Stp.Fine → k .at ≤ length xs
+      item-starts f = leb-true (k .at) (length xs) (step-holds y p (shapeChecks k (length xs)) r n f .1 .1 .0)
+
+-- an item takes four bytes at least, and no more than there are
+pub item-sized : (y : ℕ) → Sized itemWalk y
+unfolding itemWalk itemChecks
+item-sized y =
+    record {
+      sized = λ p xs v e.
+          checks-case (upTo y) p (must (leb 4 (length xs)) LENGTH 0 ∷ []) (checks p (itemChecks xs) >> ends (piece (itemIn xs) (itemSize xs))) v e λ h a f.
+          checks-case (upTo y) p (itemChecks xs) (ends (piece (itemIn xs) (itemSize xs))) v f λ g b i.
+          let is : piece (itemIn xs) (itemSize xs) ≡ v = given-inj i in
+          let l : itemSize xs ≤ length xs = leb-true (itemSize xs) (length xs) (g .1 .1 .1 .1 .0) in
+          rw (← is) (omega (arith, l), l);
+    }

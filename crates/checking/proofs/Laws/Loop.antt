@@ -1,0 +1,98 @@
+-- The loop over pieces one after another, once for all such loops: the invariant `Same`, where it starts, a turn of it, its two ways out.
+use mathlib.Core.List.{List, [], _∷_}
+use mathlib.Core.Path.{_≡_, refl, sym, ap, _∙_}
+use Prim.Native.Nat.{ℕ, zero, suc, _+_, _-_, _^_, _≤_, _<_}
+use lib.ListN.{length, take, drop, length-drop}
+use lib.Seq.{drop-drop, take-all}
+use native.Mathlib.Nat.{zero-add, add-assoc, add-zero}
+use native.Mathlib.Omega.{arith}
+use Rattle.checking.proofs.Laws.Shown.{next, plus, plus-plus, plus-none, times-shown}
+use Rattle.checking.specs.Tally.{none, add, tally, shown, Small, Within, WithinT}
+use Rattle.checking.specs.declared.tally.Counted.{Counted}
+use Rattle.checking.specs.declared.tally.Counted.the-variants.{Fine, Refused}
+use Rattle.checking.specs.declared.tally.Tally.{Tally}
+use Rattle.layout.specs.Sheet.{Table}
+use Rattle.layout.specs.Walk.{Walk, Reader, times}
+use Rattle.layout.specs.Writing.Tables.{joined}
+use Rattle.layout.specs.declared.Refusal.{Refusal}
+
+-- an open-ended part of a slice is what is left of it
+pub rest : (k : ℕ) (xs : List ℕ) → take (length xs - k) (drop k xs) ≡ drop k xs
+rest k xs = take-all (length xs - k) (drop k xs) (omega (arith, length-drop k xs))
+
+pub within-fine : (n e : ℕ) (r : Counted) (t : Tally) → r ≡ Fine t → Within n e r → WithinT n e t
+within-fine n e r t g w = rw g at w
+
+-- what a function says of the rest of a slice
+pub rest-within : (k e : ℕ) (xs : List ℕ) (r : Counted) → Within (length (take (length xs - k) (drop k xs))) e r
+    → (z : Tally) → r ≡ Fine z → WithinT (length xs - k) e z
+rest-within k e xs r w z g = let s : Within (length xs - k) e r = rw (rest, length-drop) at w in within-fine (length xs - k) e r z g s
+
+-- the counts stay within the slice: what the step's function says of what is left, for the sum and for the next turn
+module _ (xs : List ℕ) (acc : Tally) (within : WithinT (length xs) 0 acc) (r : Counted)
+    (fits : Within (length (take (length xs - acc .used) (drop (acc .used) xs))) 0 r) (z : Tally) (e : r ≡ Fine z) where
+  small : WithinT (length xs - acc .used) 0 z
+  small = rest-within (acc .used) 0 xs r fits z e
+
+  pub sum-ok : length xs < 2 ^ 32 → Small (add acc z)
+  sum-ok l = omega (arith, small)
+
+  pub within-turn : (acc′ : Tally) → acc′ ≡ add acc z → WithinT (length xs) 0 acc′
+  within-turn acc′ a = rw a (omega (arith, small))
+
+module _ {A : Type 0} (f : A → Table) (r : Reader A) (p : ℕ) (xs : List ℕ) (y : ℕ) where
+  -- what is still to be answered, with left of them to go and the counts acc of those behind: the same from turn to turn
+  abbrev pub Rest : ℕ → Tally → Counted
+  Rest left acc = plus acc (shown (tally (joined f)) y (times left r (p + acc .used) (drop (acc .used) xs)))
+
+  rest-start : (n : ℕ) → shown (tally (joined f)) y (times n r p xs) ≡ Rest n none
+  rest-start n = simp add-zero (sym (plus-none (shown (tally (joined f)) y (times n r p xs))))
+
+  rest-done : (left : ℕ) (acc : Tally) → left ≤ 0 → Rest left acc ≡ Fine acc
+  rest-done zero acc h = simp add-zero
+  rest-done (suc m) acc h = absurd (omega arith)
+
+  rest-suc : (m : ℕ) (acc : Tally) (k : Counted) → k ≡ shown (tally f) y (r (p + acc .used) (drop (acc .used) xs))
+      → Rest (suc m) acc ≡ next k (λ z. Rest m (add acc z))
+  rest-suc m acc k e = rw (times-shown y f r m (p + acc .used) (drop (acc .used) xs), ← e) (go k)
+    where
+      go : (k : Counted)
+          → plus acc (next k (λ z. plus z (shown (tally (joined f)) y (times m r (p + acc .used + z .used) (drop (z .used) (drop (acc .used) xs))))))
+          ≡ next k (λ z. Rest m (add acc z))
+      go (Fine z) =
+          simp (add-assoc, drop-drop)
+          (sym (plus-plus acc z (shown (tally (joined f)) y (times m r (p + (acc .used + z .used)) (drop (acc .used + z .used) xs)))))
+      go (Refused q) = refl
+
+  rest-turn : (left : ℕ) (acc : Tally) (k : Counted) → 0 < left → k ≡ shown (tally f) y (r (p + acc .used) (drop (acc .used) xs))
+      → Rest left acc ≡ next k (λ z. Rest (left - 1) (add acc z))
+  rest-turn zero acc k h e = absurd (omega arith)
+  rest-turn (suc m) acc k h e = let q : suc m - 1 ≡ m = omega arith in rw q (rest-suc m acc k e)
+
+module _ {A : Type 0} (f : A → Table) (r : Reader A) (n p : ℕ) (xs : List ℕ) (y : ℕ) where
+  -- with left of the n to go, and acc the counts of those behind, the answer of the whole is the answer of the rest with acc added
+  pub record Same (left : ℕ) (acc : Tally) : Type 0 where
+    pub eq : shown (tally (joined f)) y (times n r p xs) ≡ Rest f r p xs y left acc
+
+  pub same-start : Same n none
+  same-start = record { eq = rest-start f r p xs y n }
+
+  pub same-done : (left : ℕ) (acc : Tally) → Same left acc → left ≤ 0 → Fine acc ≡ shown (tally (joined f)) y (times n r p xs)
+  same-done left acc g h = sym (g .eq ∙ rest-done f r p xs y left acc h)
+
+  -- k is what the step's function answers of what is left of the slice
+  module _ (left : ℕ) (acc : Tally) (g : Same left acc) (h : 0 < left) (k : Counted)
+      (means : k ≡ shown (tally f) y (r (p + acc .used) (take (length xs - acc .used) (drop (acc .used) xs)))) where
+    turn : shown (tally (joined f)) y (times n r p xs) ≡ next k (λ z. Rest f r p xs y (left - 1) (add acc z))
+    turn = g .eq ∙ rest-turn f r p xs y left acc k h (rw rest at means)
+
+    pub same-stop : (q : Refusal) → k ≡ Refused q → Refused q ≡ shown (tally (joined f)) y (times n r p xs)
+    same-stop q e = sym (rw e at turn)
+
+    pub same-turn : (z : Tally) → k ≡ Fine z → (acc′ : Tally) → acc′ ≡ add acc z → Same (left - 1) acc′
+    same-turn z e acc′ a = rw a (record { eq = rw e at turn })
+
+-- more bytes at hand
+pub within-more : (a b e : ℕ) (r : Counted) → a ≤ b → Within a e r → Within b e r
+within-more a b e (Fine z) h w = omega (arith, w)
+within-more a b e (Refused q) h w = tt

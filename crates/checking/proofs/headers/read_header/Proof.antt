@@ -1,0 +1,21 @@
+use borrow.Author.Needs.{needs}
+use Rattle.checking.proofs.headers.read_header.Statement.{statement}
+use Rattle.checking.proofs.headers.read_header.Tie as tie
+
+returns : tie.Need-returns
+returns c = rw (c .before .before .before .before .before .before .before .before .u32-at .ensures, c .before .before .before .before .before .before .before .u32-at2 .ensures, c .before .before .before .before .before .before .u32-at3 .ensures, c .before .before .before .before .before .u8-at .ensures, c .before .before .before .before .u8-at2 .ensures, c .before .before .before .u8-at3 .ensures, c .before .before .u32-at4 .ensures, c .before .u16-at .ensures, c .u16-at2 .ensures)
+
+pub read-header-spec : {M : Type 1} → statement M
+read-header-spec =
+    tie.close
+    (tie.spec
+    (λ c κs. search needs)
+    (λ c κs. search needs)
+    (λ c κs. search needs)
+    (λ c κs. search needs)
+    (λ c κs. search needs)
+    (λ c κs. search needs)
+    (λ c κs. search needs)
+    (λ c κs. search needs)
+    (λ c κs. search needs)
+    returns)

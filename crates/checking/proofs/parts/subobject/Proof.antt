@@ -1,0 +1,49 @@
+use native.Mathlib.Omega.{arith}
+use mathlib.Core.Path.{sym, _∙_}
+use denote.Ref.{now}
+use Rattle.checking.specs.declared.tally.Counted.the-variants.{Fine, Refused}
+use Rattle.checking.proofs.Laws.Loop.{rest-within}
+use Rattle.checking.proofs.Laws.Parts.{subobject-short, subobject-count, subobject-then}
+use borrow.Author.Needs.{needs}
+use Rattle.checking.proofs.parts.subobject.Statement.{statement}
+use Rattle.checking.proofs.parts.subobject.Tie as tie
+
+returns : tie.Need-returns
+returns c = (λ y. subobject-short y _ _ _ _ (c .if1 .taken), tt)
+
+add-t25 : tie.Need-add-t25
+add-t25 c = let w = rest-within _ _ (now (c .before .before .before .before .before .before .before .before .before .before .before .args .xs)) (c .before .before .before .before .part .result) (c .before .before .before .before .part .ensures .1) _ (c .before .before .t .given .1) in omega (arith, w)
+
+returns-2 : tie.Need-returns-2
+returns-2 c =
+    let w = rest-within _ _ (now (c .before .before .before .before .before .before .before .before .before .before .before .args .xs)) (c .before .before .before .before .part .result) (c .before .before .before .before .part .ensures .1) _ (c .before .before .t .given .1) in
+    (λ y. subobject-then y _ _ _ _ (c .before .before .before .before .before .before .before .before .before .if1 .left) _ _ (c .before .before .before .before .before .before .before .before .u16-at .ensures) (c .before .before .before .before .before .before .before .u16-at2 .ensures) (c .before .before .before .before .before .before .if2 .taken) (Fine (c .before .before .t .given .0 .0)) (sym (c .before .before .t .given .1) ∙ c .before .before .before .before .part .ensures .0 y), omega (arith, w))
+
+returns-3 : tie.Need-returns-3
+returns-3 c = (λ y. subobject-then y _ _ _ _ (c .before .before .before .before .before .before .before .before .if1 .left) _ _ (c .before .before .before .before .before .before .before .u16-at .ensures) (c .before .before .before .before .before .before .u16-at2 .ensures) (c .before .before .before .before .before .if2 .taken) (Refused (c .before .r .given .0 .0)) (sym (c .before .r .given .1) ∙ c .before .before .before .part .ensures .0 y), tt)
+
+returns-4 : tie.Need-returns-4
+returns-4 c = (λ y. subobject-count y _ _ _ _ (c .before .before .before .if1 .left) _ _ (c .before .before .u16-at .ensures) (c .before .u16-at2 .ensures) (c .if2 .left), tt)
+
+pub subobject-spec : {M : Type 1} → statement M
+subobject-spec =
+    tie.close
+    (tie.spec
+    returns
+    (λ c κs. search needs)
+    (λ c. search needs)
+    (λ c κs. search needs)
+    (λ c. search needs)
+    (λ c. search needs)
+    (λ c. search needs)
+    (λ c. search needs)
+    (λ c. search needs)
+    (λ c. search needs)
+    (λ c. search needs)
+    (λ c κs. search needs)
+    (λ c. search needs)
+    add-t25
+    (λ c. search needs)
+    returns-2
+    returns-3
+    returns-4)

@@ -1,0 +1,31 @@
+use native.Mathlib.Omega.{arith}
+use denote.Ref.{now}
+use Rattle.checking.proofs.Laws.Records.{record-short, record-on, record-stop, record-passed}
+use borrow.Author.Needs.{needs}
+use Rattle.checking.proofs.records.one_record.Statement.{statement}
+use Rattle.checking.proofs.records.one_record.Tie as tie
+
+returns : tie.Need-returns
+returns c = (record-short _ _ _ (c .if1 .taken), tt)
+
+rest-requires : tie.Need-rest-requires
+rest-requires c κs = (omega arith, record-passed _ _ (now (c .before .before .before .before .before .before .args .xs)) (c .before .before .before .before .if1 .left) _ (c .before .before .before .read-header .ensures) (c .before .before .check-header .result) (c .before .before .check-header .ensures) (c .enum-told .given .1))
+
+returns-2 : tie.Need-returns-2
+returns-2 c = (record-on _ _ (now (c .before .before .before .before .before .before .before .args .xs)) (c .before .before .before .before .before .if1 .left) _ (c .before .before .before .before .read-header .ensures) (c .before .before .before .check-header .result) (c .before .before .before .check-header .ensures) (c .before .enum-told .given .1) _ (c .rest .ensures .0), c .rest .ensures .1)
+
+returns-3 : tie.Need-returns-3
+returns-3 c = (record-stop _ _ (now (c .before .before .before .before .before .before .before .args .xs)) (c .before .before .before .before .before .if1 .left) _ (c .before .before .before .before .read-header .ensures) (c .before .before .before .check-header .result) (c .before .before .before .check-header .ensures) _ (c .before .r .given .1), tt)
+
+pub one-record-spec : {M : Type 1} → statement M
+one-record-spec =
+    tie.close
+    (tie.spec
+    returns
+    (λ c κs. search needs)
+    (λ c κs. search needs)
+    (λ c. search needs)
+    rest-requires
+    (λ c. search needs)
+    returns-2
+    returns-3)

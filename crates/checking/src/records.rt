@@ -1,0 +1,133 @@
+// Records: header, metric, semantics.
+ghost use mathlib.Core.Path.{_≡_};
+ghost use Prim.Native.Nat.{ℕ, _+_, _≤_, _<_, _^_};
+ghost use lib.ListN.{length};
+ghost use Rattle.checking.specs.Records.{Passed, restWalk, semanticsOf};
+ghost use Rattle.checking.specs.Tally.{shown, tally, Within, WithinT};
+ghost use Rattle.layout.specs.Reading.Records.{recordWalk};
+ghost use Rattle.layout.specs.Shared.Mark.{firstCount};
+ghost use Rattle.layout.specs.Walk.{times};
+ghost use Rattle.layout.specs.Writing.Tables.{joined, flattenRecord};
+use crate::headers;
+use crate::headers::Header;
+use crate::items;
+use crate::parts;
+use crate::tally::Counted;
+use crate::tally::Tally;
+use crate::tally::sum;
+use fields::steps;
+use fields::steps::Step;
+use layout::Refusal;
+
+// The first part's count of points.
+fn first_count(points: u16, word: u32) -> usize
+    ensures { λ r. ⌜ (r ≡ firstCount points word) × (r < 2 ^ 32) ⌝ }
+{
+    if points == 65535 {
+        return word as usize;
+    }
+    points as usize
+}
+
+// What fills a record after its metric, where front is counted before it.
+fn semantics(xs: &[u8], p: usize, flag: bool, front: Tally, year: u32) -> Counted
+    requires { ⌜ (p + length (now xs) < 2 ^ 32) × (front .used + length (now xs) < 2 ^ 32) × WithinT (front .used) 0 front ⌝ }
+    ensures means { λ r. ⌜ r ≡ semanticsOf flag front year p (now (xs .entry)) ⌝ }
+    ensures within { λ r. ⌜ Within (front .used + length (now (xs .entry))) 0 r ⌝ }
+{
+    if steps::agree(flag, 0 < xs.len()) {
+        return match items::items(xs, p, year) {
+            Counted::Fine(s) => Counted::Fine(sum(front, s)),
+            Counted::Refused(r) => Counted::Refused(r),
+        };
+    }
+    Counted::Refused(Refusal {
+        number: 10,
+        place: p,
+        year: 0,
+    })
+}
+
+// A record whose header h was let through.
+fn rest(xs: &[u8], p: usize, h: Header, year: u32) -> Counted
+    requires { ⌜ (p + length (now xs) < 2 ^ 32) × Passed (now xs) h ⌝ }
+    ensures means { λ r. ⌜ r ≡ shown (tally flattenRecord) year (restWalk p (now (xs .entry))) ⌝ }
+    ensures within { λ r. ⌜ Within (length (now (xs .entry))) 0 r ⌝ }
+{
+    let end = 32 + h.metric as usize;
+    let total = h.total as usize;
+    let count = first_count(h.points, h.word);
+    let marked = h.points == 65535;
+    match parts::metric(
+        &xs[32..end],
+        p + 32,
+        count,
+        h.subobjects,
+        marked,
+        h.b20,
+        h.b21,
+        h.b22,
+    ) {
+        Counted::Fine(m) => {
+            let front = sum(
+                Tally {
+                    used: 32,
+                    numbers: 8,
+                    elements: 0,
+                    bytes: 0,
+                },
+                m,
+            );
+            semantics(&xs[end..total], p + end, h.b21 / 2 % 2 == 1, front, year)
+        }
+        Counted::Refused(r) => Counted::Refused(r),
+    }
+}
+
+// One record.
+pub fn one_record(xs: &[u8], p: usize, year: u32) -> Counted
+    requires { ⌜ p + length (now xs) < 2 ^ 32 ⌝ }
+    ensures means { λ r. ⌜ r ≡ shown (tally flattenRecord) year (recordWalk p (now (xs .entry))) ⌝ }
+    ensures within { λ r. ⌜ Within (length (now (xs .entry))) 0 r ⌝ }
+{
+    if xs.len() < 32 {
+        return Counted::Refused(Refusal {
+            number: 2,
+            place: p,
+            year: 0,
+        });
+    }
+    let h = headers::read_header(xs);
+    match headers::check_header(h, p, xs.len(), year) {
+        Step::Fine => rest(xs, p, h, year),
+        Step::Refused(r) => Counted::Refused(r),
+    }
+}
+
+// So many records, one after another.
+pub fn records(xs: &[u8], p: usize, n: u32, year: u32) -> Counted
+    requires { ⌜ p + length (now xs) < 2 ^ 32 ⌝ }
+    ensures means { λ r. ⌜ r ≡ shown (tally (joined flattenRecord)) year (times n recordWalk p (now (xs .entry))) ⌝ }
+    ensures within { λ r. ⌜ Within (length (now (xs .entry))) 0 r ⌝ }
+{
+    let mut left = n;
+    let mut acc = Tally {
+        used: 0,
+        numbers: 0,
+        elements: 0,
+        bytes: 0,
+    };
+    while 0 < left {
+        let at = acc.used;
+        match one_record(&xs[at..], p + at, year) {
+            Counted::Fine(z) => {
+                acc = sum(acc, z);
+            }
+            Counted::Refused(r) => {
+                return Counted::Refused(r);
+            }
+        }
+        left -= 1;
+    }
+    Counted::Fine(acc)
+}

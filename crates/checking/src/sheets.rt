@@ -1,0 +1,141 @@
+// The sheet: passport and descriptor, then the records.
+ghost use mathlib.Core.List.{[], _∷_};
+ghost use mathlib.Core.Path.{_≡_};
+ghost use Prim.Native.Nat.{ℕ, _+_, _≤_, _<_};
+ghost use lib.Dec.{eqb};
+ghost use lib.ListN.{length, take, drop};
+ghost use Rattle.checking.specs.Sheets.{headRules, Headed};
+ghost use Rattle.fields.specs.Steps.{Next};
+ghost use Rattle.fields.specs.declared.steps.Step.the-variants.{Fine};
+ghost use Rattle.layout.specs.Answers.Enums.{checkedOf};
+ghost use Rattle.layout.specs.Bytes.{number};
+ghost use Rattle.layout.specs.Fields.{limit};
+ghost use Rattle.layout.specs.Reading.Sheets.{sumOf, passportChecks, sheetWalk};
+ghost use Rattle.layout.specs.Shared.Texts.{isTextField};
+ghost use Rattle.layout.specs.Walk.{must, answer, upTo};
+use crate::records;
+use crate::tally::Counted;
+use fields::flags;
+use fields::numbers;
+use fields::steps::Step;
+use fields::steps::demand;
+use fields::sums;
+use fields::texts;
+use layout::Checked;
+use layout::Refusal;
+use layout::Sizes;
+
+// The four bytes at p hold one value only.
+fn fixed(so_far: Step, s: &[u8], p: usize, value: u32, refusal: u32) -> Step
+    requires { ⌜ p + 4 ≤ length (now s) ⌝ }
+    ensures { λ r. ⌜ ((y : ℕ) → Next «so_far» y 0 (must (eqb (number 4 (drop p (now (s .entry)))) value) refusal p ∷ []) r) ⌝ }
+{
+    demand(so_far, numbers::u32_at(s, p) == value, refusal, 0, p)
+}
+
+// The n bytes at p hold a text.
+fn text(so_far: Step, s: &[u8], p: usize, n: usize) -> Step
+    requires { ⌜ p + n ≤ length (now s) ⌝ }
+    ensures { λ r. ⌜ ((y : ℕ) → Next «so_far» y 0 (must (isTextField (take n (drop p (now (s .entry))))) 6 p ∷ []) r) ⌝ }
+{
+    demand(
+        so_far,
+        texts::is_text_field(numbers::part(s, p, n)),
+        6,
+        0,
+        p,
+    )
+}
+
+// The sum. It is dear, so it is not asked for once there is a refusal.
+fn sum_stands(so_far: Step, s: &[u8]) -> Step
+    requires { ⌜ (16 ≤ length (now s)) × (length (now s) ≤ limit) ⌝ }
+    ensures { λ r. ⌜ ((y : ℕ) → Next «so_far» y 0 (must (eqb (number 4 (drop 12 (now (s .entry)))) (sumOf (now (s .entry)))) 5 12 ∷ []) r) ⌝ }
+{
+    match so_far {
+        Step::Fine => {
+            let stated = numbers::u32_at(s, 12);
+            demand(Step::Fine, stated == sums::sheet_sum(s), 5, 0, 12)
+        }
+        Step::Refused(_) => so_far,
+    }
+}
+
+fn check_passport(s: &[u8]) -> Step
+    requires { ⌜ (452 ≤ length (now s)) × (length (now s) ≤ limit) ⌝ }
+    ensures { λ r. ⌜ ((y : ℕ) → Next Fine y 0 (passportChecks (now (s .entry))) r) ⌝ }
+{
+    let a = fixed(Step::Fine, s, 0, 0x00465853, 3);
+    let a = fixed(a, s, 4, 400, 4);
+    let a = fixed(a, s, 8, 0x00040000, 4);
+    let a = sum_stands(a, s);
+    let a = text(a, s, 16, 12);
+    let a = text(a, s, 28, 32);
+    text(a, s, 64, 32)
+}
+
+// All checks on passport and descriptor.
+fn check_head(s: &[u8], year: u32) -> Step
+    requires { ⌜ (452 ≤ length (now s)) × (length (now s) ≤ limit) ⌝ }
+    ensures { λ r. ⌜ Next Fine year 0 (headRules (now (s .entry))) r ⌝ }
+{
+    let a = check_passport(s);
+    let a = flags::rest_of_passport(a, numbers::part(s, 96, 304), year);
+    let a = fixed(a, s, 400, 0x00544144, 3);
+    let a = fixed(a, s, 404, 52, 4);
+    let a = text(a, s, 408, 32);
+    let a = flags::carried(a, numbers::part(s, 444, 4), year);
+    demand(a, texts::all_zero(numbers::part(s, 448, 4)), 7, 0, 448)
+}
+
+// The records of a sheet whose head was let through.
+fn check_records(s: &[u8], year: u32) -> Checked
+    requires { ⌜ Headed (now s) year ⌝ }
+    ensures { λ r. ⌜ r ≡ checkedOf (answer (upTo year) (sheetWalk (now (s .entry)))) ⌝ }
+{
+    let count = numbers::u32_at(s, 440);
+    match records::records(&s[452..], 452, count, year) {
+        Counted::Fine(t) => {
+            let used = t.used;
+            if used < s.len() - 452 {
+                return Checked::Refused(Refusal {
+                    number: 13,
+                    place: 452 + used,
+                    year: 0,
+                });
+            }
+            Checked::Accepted(Sizes {
+                sum: numbers::u32_at(s, 12),
+                records: count,
+                numbers: t.numbers,
+                elements: t.elements,
+                bytes: t.bytes,
+            })
+        }
+        Counted::Refused(r) => Checked::Refused(r),
+    }
+}
+
+// Pass 1: the sizes of what unfolding the sheet gives, or the refusal.
+pub fn check_sheet(s: &[u8], year: u32) -> Checked
+    ensures { λ r. ⌜ r ≡ checkedOf (answer (upTo year) (sheetWalk (now (s .entry)))) ⌝ }
+{
+    if 16777216 < s.len() {
+        return Checked::Refused(Refusal {
+            number: 1,
+            place: 0,
+            year: 0,
+        });
+    }
+    if s.len() < 452 {
+        return Checked::Refused(Refusal {
+            number: 2,
+            place: 0,
+            year: 0,
+        });
+    }
+    match check_head(s, year) {
+        Step::Fine => check_records(s, year),
+        Step::Refused(r) => Checked::Refused(r),
+    }
+}

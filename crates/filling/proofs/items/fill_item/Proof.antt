@@ -1,0 +1,69 @@
+use native.Mathlib.Omega.{arith}
+use Rattle.filling.proofs.OneItem.{item-some, item-value, item-asks, item-moved, item-wrote}
+use borrow.Author.Needs.{needs}
+use Rattle.filling.proofs.items.fill_item.Statement.{statement}
+use Rattle.filling.proofs.items.fill_item.Tie as tie
+
+u16-at-requires : tie.Need-u16-at-requires
+u16-at-requires c κs = let a = item-some (c .before .before .before .args .xs .now) (c .before .before .before .args .c) _ _ _ _ (c .before .before .before .pre) in omega (arith, a)
+
+add-u8-at : tie.Need-add-u8-at
+add-u8-at c = let a = item-some (c .before .before .before .before .args .xs .now) (c .before .before .before .before .args .c) _ _ _ _ (c .before .before .before .before .pre) in omega (arith, a)
+
+u8-at-requires : tie.Need-u8-at-requires
+u8-at-requires c κs = let a = item-some (c .before .before .before .before .args .xs .now) (c .before .before .before .before .args .c) _ _ _ _ (c .before .before .before .before .pre) in omega (arith, a)
+
+add-u8-at-2 : tie.Need-add-u8-at-2
+add-u8-at-2 c = let a = item-some (c .before .before .before .before .before .args .xs .now) (c .before .before .before .before .before .args .c) _ _ _ _ (c .before .before .before .before .before .pre) in omega (arith, a)
+
+u8-at-requires-2 : tie.Need-u8-at-requires-2
+u8-at-requires-2 c κs = let a = item-some (c .before .before .before .before .before .args .xs .now) (c .before .before .before .before .before .args .c) _ _ _ _ (c .before .before .before .before .before .pre) in omega (arith, a)
+
+value-length-requires : tie.Need-value-length-requires
+value-length-requires c κs = item-value (c .before .before .before .before .before .before .before .args .xs .now) (c .before .before .before .before .before .before .before .args .c) _ _ _ (c .before .before .before .u16-at .ensures) (c .before .before .u8-at .ensures) (c .before .u8-at2 .ensures) _ _ _ _ (c .before .before .before .before .before .before .before .pre)
+
+add-put-bytes : tie.Need-add-put-bytes
+add-put-bytes c = let a = item-asks (c .before .before .before .before .before .before .before .before .args .xs .now) (c .before .before .before .before .before .before .before .before .args .c) _ _ _ (c .before .before .before .before .u16-at .ensures) (c .before .before .before .u8-at .ensures) (c .before .before .u8-at2 .ensures) _ _ (c .before .value-place .ensures .0) (c .value-length .ensures .0) (c .before .before .before .before .before .before .before .before .pre .place) _ _ _ _ (c .before .before .before .before .before .before .before .before .pre) in omega (arith, a)
+
+put-bytes-requires : tie.Need-put-bytes-requires
+put-bytes-requires c κs = let a = item-asks (c .before .before .before .before .before .before .before .before .before .args .xs .now) (c .before .before .before .before .before .before .before .before .before .args .c) _ _ _ (c .before .before .before .before .before .u16-at .ensures) (c .before .before .before .before .u8-at .ensures) (c .before .before .before .u8-at2 .ensures) _ _ (c .before .before .value-place .ensures .0) (c .before .value-length .ensures .0) (c .before .before .before .before .before .before .before .before .before .pre .place) _ _ _ _ (c .before .before .before .before .before .before .before .before .before .pre) in (a .0, a .2)
+
+put-item-requires : tie.Need-put-item-requires
+put-item-requires c κs = let a = item-asks (c .before .before .before .before .before .before .before .before .before .before .before .before .before .args .xs .now) (c .before .before .before .before .before .before .before .before .before .before .before .before .before .args .c) _ _ _ (c .before .before .before .before .before .before .before .before .before .u16-at .ensures) (c .before .before .before .before .before .before .before .before .u8-at .ensures) (c .before .before .before .before .before .before .before .u8-at2 .ensures) _ _ (c .before .before .before .before .before .before .value-place .ensures .0) (c .before .before .before .before .before .value-length .ensures .0) (c .before .before .before .before .before .before .before .before .before .before .before .before .before .pre .place) _ _ _ _ (c .before .before .before .before .before .before .before .before .before .before .before .before .before .pre) in a .1
+
+add-t13 : tie.Need-add-t13
+add-t13 c = let a = item-asks (c .before .before .before .before .before .before .before .before .before .before .before .before .before .before .before .before .args .xs .now) (c .before .before .before .before .before .before .before .before .before .before .before .before .before .before .before .before .args .c) _ _ _ (c .before .before .before .before .before .before .before .before .before .before .before .before .u16-at .ensures) (c .before .before .before .before .before .before .before .before .before .before .before .u8-at .ensures) (c .before .before .before .before .before .before .before .before .before .before .u8-at2 .ensures) _ _ (c .before .before .before .before .before .before .before .before .before .value-place .ensures .0) (c .before .before .before .before .before .before .before .before .value-length .ensures .0) (c .before .before .before .before .before .before .before .before .before .before .before .before .before .before .before .before .pre .place) _ _ _ _ (c .before .before .before .before .before .before .before .before .before .before .before .before .before .before .before .before .pre) in omega (arith, a)
+
+add-t19 : tie.Need-add-t19
+add-t19 c = let a = item-asks (c .before .before .before .before .before .before .before .before .before .before .before .before .before .before .before .before .args .xs .now) (c .before .before .before .before .before .before .before .before .before .before .before .before .before .before .before .before .args .c) _ _ _ (c .before .before .before .before .before .before .before .before .before .before .before .before .u16-at .ensures) (c .before .before .before .before .before .before .before .before .before .before .before .u8-at .ensures) (c .before .before .before .before .before .before .before .before .before .before .u8-at2 .ensures) _ _ (c .before .before .before .before .before .before .before .before .before .value-place .ensures .0) (c .before .before .before .before .before .before .before .before .value-length .ensures .0) (c .before .before .before .before .before .before .before .before .before .before .before .before .before .before .before .before .pre .place) _ _ _ _ (c .before .before .before .before .before .before .before .before .before .before .before .before .before .before .before .before .pre) in omega (arith, a)
+
+add-t20 : tie.Need-add-t20
+add-t20 c = let a = item-asks (c .before .before .before .before .before .before .before .before .before .before .before .before .before .before .before .before .args .xs .now) (c .before .before .before .before .before .before .before .before .before .before .before .before .before .before .before .before .args .c) _ _ _ (c .before .before .before .before .before .before .before .before .before .before .before .before .u16-at .ensures) (c .before .before .before .before .before .before .before .before .before .before .before .u8-at .ensures) (c .before .before .before .before .before .before .before .before .before .before .u8-at2 .ensures) _ _ (c .before .before .before .before .before .before .before .before .before .value-place .ensures .0) (c .before .before .before .before .before .before .before .before .value-length .ensures .0) (c .before .before .before .before .before .before .before .before .before .before .before .before .before .before .before .before .pre .place) _ _ _ _ (c .before .before .before .before .before .before .before .before .before .before .before .before .before .before .before .before .pre) in let g = c .before .before .before .before .before .before .before .before .before .before .before .before .before .before .before .before .good in omega (arith, a, g)
+
+add-t21 : tie.Need-add-t21
+add-t21 c = let a = item-asks (c .before .before .before .before .before .before .before .before .before .before .before .before .before .before .before .before .args .xs .now) (c .before .before .before .before .before .before .before .before .before .before .before .before .before .before .before .before .args .c) _ _ _ (c .before .before .before .before .before .before .before .before .before .before .before .before .u16-at .ensures) (c .before .before .before .before .before .before .before .before .before .before .before .u8-at .ensures) (c .before .before .before .before .before .before .before .before .before .before .u8-at2 .ensures) _ _ (c .before .before .before .before .before .before .before .before .before .value-place .ensures .0) (c .before .before .before .before .before .before .before .before .value-length .ensures .0) (c .before .before .before .before .before .before .before .before .before .before .before .before .before .before .before .before .pre .place) _ _ _ _ (c .before .before .before .before .before .before .before .before .before .before .before .before .before .before .before .before .pre) in let g = c .before .before .before .before .before .before .before .before .before .before .before .before .before .before .before .before .good in omega (arith, a, g)
+
+returns : tie.Need-returns
+returns c = (item-moved (c .before .before .before .before .before .before .before .before .before .before .before .before .before .before .before .before .args .xs .now) (c .before .before .before .before .before .before .before .before .before .before .before .before .before .before .before .before .args .c) _ _ _ (c .before .before .before .before .before .before .before .before .before .before .before .before .u16-at .ensures) (c .before .before .before .before .before .before .before .before .before .before .before .u8-at .ensures) (c .before .before .before .before .before .before .before .before .before .before .u8-at2 .ensures) _ _ (c .before .before .before .before .before .before .before .before .before .value-place .ensures .0) (c .before .before .before .before .before .before .before .before .value-length .ensures .0) (c .before .before .before .before .before .before .before .before .before .before .before .before .before .before .before .before .pre .place), item-wrote (c .before .before .before .before .before .before .before .before .before .before .before .before .before .before .before .before .args .xs .now) (c .before .before .before .before .before .before .before .before .before .before .before .before .before .before .before .before .args .c) _ _ _ (c .before .before .before .before .before .before .before .before .before .before .before .before .u16-at .ensures) (c .before .before .before .before .before .before .before .before .before .before .before .u8-at .ensures) (c .before .before .before .before .before .before .before .before .before .before .u8-at2 .ensures) _ _ (c .before .before .before .before .before .before .before .before .before .value-place .ensures .0) (c .before .before .before .before .before .before .before .before .value-length .ensures .0) (c .before .before .before .before .before .before .before .before .before .before .before .before .before .before .before .before .pre .place) _ _ _ _ (c .before .before .put-item .ensures) (c .before .before .before .before .before .before .put-bytes .ensures))
+
+pub fill-item-spec : {M : Type 1} → statement M
+fill-item-spec =
+    tie.close
+    (tie.spec
+    u16-at-requires
+    add-u8-at
+    u8-at-requires
+    add-u8-at-2
+    u8-at-requires-2
+    (λ c κs. search needs)
+    value-length-requires
+    add-put-bytes
+    put-bytes-requires
+    put-item-requires
+    add-t13
+    add-t19
+    add-t20
+    add-t21
+    (λ c. search needs)
+    (λ c. search needs)
+    returns)

@@ -1,0 +1,41 @@
+use native.Mathlib.Omega.{arith}
+use Rattle.filling.proofs.OnePart.{subobject-some, subobject-ask, subobject-moved, subobject-wrote}
+use borrow.Author.Needs.{needs}
+use Rattle.filling.proofs.parts.fill_subobject.Statement.{statement}
+use Rattle.filling.proofs.parts.fill_subobject.Tie as tie
+
+u16-at-requires : tie.Need-u16-at-requires
+u16-at-requires c κs = let a = subobject-some (c .before .before .before .before .args .xs .now) (c .before .before .before .before .args .s) (c .before .before .before .before .args .c) _ _ _ _ (c .before .before .before .before .pre) in omega (arith, a)
+
+add-u16-at : tie.Need-add-u16-at
+add-u16-at c = let a = subobject-some (c .before .before .before .before .before .args .xs .now) (c .before .before .before .before .before .args .s) (c .before .before .before .before .before .args .c) _ _ _ _ (c .before .before .before .before .before .pre) in omega (arith, a)
+
+u16-at-requires-2 : tie.Need-u16-at-requires-2
+u16-at-requires-2 c κs = let a = subobject-some (c .before .before .before .before .before .args .xs .now) (c .before .before .before .before .before .args .s) (c .before .before .before .before .before .args .c) _ _ _ _ (c .before .before .before .before .before .pre) in omega (arith, a)
+
+add-fill-part : tie.Need-add-fill-part
+add-fill-part c = let a = subobject-some (c .before .before .before .before .before .before .args .xs .now) (c .before .before .before .before .before .before .args .s) (c .before .before .before .before .before .before .args .c) _ _ _ _ (c .before .before .before .before .before .before .pre) in omega (arith, a)
+
+fill-part-requires : tie.Need-fill-part-requires
+fill-part-requires c κs = (subobject-ask (c .before .before .before .before .before .before .before .before .before .args .xs .now) (c .before .before .before .before .before .before .before .before .before .args .s) (c .before .before .before .before .before .before .before .before .before .args .c) _ _ (c .before .before .before .before .u16-at .ensures) (c .before .before .before .u16-at2 .ensures) _ _ _ _ (c .before .before .before .before .before .before .before .before .before .pre), omega arith)
+
+returns : tie.Need-returns
+returns c = (subobject-moved (c .before .before .before .before .before .before .before .before .before .before .before .before .before .before .before .before .args .xs .now) (c .before .before .before .before .before .before .before .before .before .before .before .before .before .before .before .before .args .s) (c .before .before .before .before .before .before .before .before .before .before .before .before .before .before .before .before .args .c) _ _ (c .before .before .before .before .before .before .before .before .before .before .before .u16-at .ensures) (c .before .before .before .before .before .before .before .before .before .before .u16-at2 .ensures) _ (c .before .before .before .before .before .before .fill-part .ensures .0), subobject-wrote (c .before .before .before .before .before .before .before .before .before .before .before .before .before .before .before .before .args .xs .now) (c .before .before .before .before .before .before .before .before .before .before .before .before .before .before .before .before .args .s) (c .before .before .before .before .before .before .before .before .before .before .before .before .before .before .before .before .args .c) _ _ (c .before .before .before .before .before .before .before .before .before .before .before .u16-at .ensures) (c .before .before .before .before .before .before .before .before .before .before .u16-at2 .ensures) _ _ _ _ _ _ (c .before .before .before .before .before .before .fill-part .ensures .1))
+
+pub fill-subobject-spec : {M : Type 1} → statement M
+fill-subobject-spec =
+    tie.close
+    (tie.spec
+    u16-at-requires
+    (λ c. search needs)
+    add-u16-at
+    u16-at-requires-2
+    (λ c. search needs)
+    add-fill-part
+    (λ c. search needs)
+    (λ c. search needs)
+    fill-part-requires
+    (λ c. search needs)
+    (λ c. search needs)
+    (λ c. search needs)
+    returns)

@@ -1,0 +1,63 @@
+use Rattle.filling.proofs.Put.{point-turn}
+use Prim.Native.Nat.{_+_, _-_, _*_}
+use mathlib.Core.List.{[], _∷_}
+use native.Mathlib.Omega.{arith}
+use borrow.Author.Needs.{needs}
+use lib.ListN.{length-set}
+use Rattle.filling.proofs.Put.{Putting, put-start, put-turn, put-done}
+use Rattle.filling.proofs.pools.put_points.Statement.{statement}
+use Rattle.filling.proofs.pools.put_points.Tie as tie
+
+abbrev Inv-loop : tie.InvT-loop
+Inv-loop xs at n out₀ w i₀ out i = Putting (2 ∷ 2 ∷ 4 ∷ []) xs at n w out₀ i out
+
+abbrev μ-loop : tie.MeasureT-loop
+μ-loop xs at n out₀ w i₀ out i = n - i
+
+loop-holds : tie.Need-loop-holds Inv-loop μ-loop
+loop-holds c = put-start _ _ _ _ _ _
+
+slice-write-out-2 : tie.Need-slice-write-out-2 Inv-loop μ-loop
+slice-write-out-2 c = simp length-set (omega arith)
+
+slice-write-out-3 : tie.Need-slice-write-out-3 Inv-loop μ-loop
+slice-write-out-3 c = simp length-set (omega arith)
+
+loop-again : tie.Need-loop-again Inv-loop μ-loop
+loop-again c = put-turn (2 ∷ 2 ∷ 4 ∷ []) (c .before .before .before .before .before .before .before .args .xs .now) (c .before .before .before .before .before .before .before .args .at) (c .before .before .before .before .before .before .before .args .n) (c .before .before .before .before .before .before .before .args .w) _ (c .before .before .before .before .loop .i) (c .before .before .before .before .loop .out) _ (c .before .before .before .before .loop .inv) (omega arith) (point-turn (c .before .before .before .before .loop .out) (c .before .before .before .before .before .before .before .args .xs .now) (c .before .before .before .before .before .before .before .args .w + 3 * c .before .before .before .before .loop .i) (c .before .before .before .before .before .before .before .args .at + 8 * c .before .before .before .before .loop .i) _ _ _ (c .before .before .u16-at .ensures) (c .before .u16-at2 .ensures) (c .u32-at .ensures))
+
+returns : tie.Need-returns Inv-loop μ-loop
+returns c = put-done _ _ _ _ _ _ _ _ (c .before .loop .inv) (omega arith)
+
+pub put-points-spec : {M : Type 1} → statement M
+put-points-spec =
+    tie.close
+    (tie.spec
+    Inv-loop
+    μ-loop
+    loop-holds
+    (λ c. search needs)
+    (λ c. search needs)
+    (λ c κs. search needs)
+    (λ c. search needs)
+    (λ c κs. search needs)
+    (λ c. search needs)
+    (λ c κs. search needs)
+    (λ c. search needs)
+    (λ c. search needs)
+    (λ c. search needs)
+    (λ c. search needs)
+    (λ c. search needs)
+    (λ c. search needs)
+    (λ c. search needs)
+    (λ c. search needs)
+    slice-write-out-2
+    (λ c. search needs)
+    (λ c. search needs)
+    (λ c. search needs)
+    slice-write-out-3
+    (λ c. search needs)
+    (λ c. search needs)
+    loop-again
+    (λ c. search needs)
+    returns)

@@ -1,0 +1,45 @@
+use borrow.Author.Needs.{needs}
+use lib.ListN.{drop}
+use mathlib.Core.Path.{ap}
+use native.Mathlib.Omega.{arith}
+use Rattle.filling.specs.Pieces.{Each}
+use Rattle.filling.specs.Records.{recordIn, recordSize, RecordFits}
+use Rattle.filling.specs.declared.cursors.Cursor.{Cursor}
+use Rattle.layout.specs.Writing.Tables.{flattenRecord}
+use Rattle.filling.proofs.Loops.{Turns, turns-start, turns-room, turns-turn, turns-done, each-turn, each-next}
+use Rattle.filling.proofs.records.fill_records.Statement.{statement}
+use Rattle.filling.proofs.records.fill_records.Tie as tie
+
+abbrev Inv-loop : tie.InvT-loop
+Inv-loop xs n table₀ elements₀ bytes₀ left₀ acc₀ table elements bytes left acc = Turns recordIn recordSize flattenRecord xs acc₀ table₀ elements₀ bytes₀ n left acc table elements bytes × Each RecordFits recordSize left (drop (acc .place) xs)
+
+abbrev μ-loop : tie.MeasureT-loop
+μ-loop xs n table₀ elements₀ bytes₀ left₀ acc₀ table elements bytes left acc = left
+
+loop-holds : tie.Need-loop-holds Inv-loop μ-loop
+loop-holds c = (turns-start recordIn recordSize flattenRecord (c .before .before .before .before .args .xs .now) (c .before .before .before .before .args .c) _ _ _ (c .before .before .before .before .args .n), c .before .before .before .before .pre .1)
+
+fill-record-requires : tie.Need-fill-record-requires Inv-loop μ-loop
+fill-record-requires c κs = (turns-room recordIn recordSize flattenRecord (c .before .before .before .before .before .before .before .before .before .args .xs .now) (c .before .before .before .before .before .before .before .before .before .args .c) _ _ _ (c .before .before .before .before .before .before .before .before .before .args .n) _ _ _ _ _ (c .before .before .before .before .loop .inv .0) (omega arith) _ (c .before .before .before .before .before .before .before .before .before .pre .0), each-turn RecordFits recordSize (c .before .before .before .before .loop .left) (c .before .before .before .before .loop .acc .place) (c .before .before .before .before .before .before .before .before .before .args .xs .now) (omega arith) (c .before .before .before .before .loop .inv .1) .0)
+
+loop-again : tie.Need-loop-again Inv-loop μ-loop
+loop-again c = (turns-turn recordIn recordSize flattenRecord (c .before .before .before .before .before .before .before .before .before .before .before .before .before .before .before .before .args .xs .now) (c .before .before .before .before .before .before .before .before .before .before .before .before .before .before .before .before .args .c) _ _ _ (c .before .before .before .before .before .before .before .before .before .before .before .before .before .before .before .before .args .n) _ _ _ _ _ (c .before .before .before .before .before .before .before .before .before .before .before .loop .inv .0) (omega arith) _ _ _ _ (c .before .before .before .before .before .before .fill-record .ensures .0) (c .before .before .before .before .before .before .fill-record .ensures .1), each-next RecordFits recordSize (c .before .before .before .before .before .before .before .before .before .before .before .loop .left) (c .before .before .before .before .before .before .before .before .before .before .before .loop .acc .place) _ (c .before .before .before .before .before .before .before .before .before .before .before .before .before .before .before .before .args .xs .now) (omega arith) (c .before .before .before .before .before .before .before .before .before .before .before .loop .inv .1) (ap (λ (z : Cursor). z .place) (c .before .before .before .before .before .before .fill-record .ensures .0)))
+
+returns : tie.Need-returns Inv-loop μ-loop
+returns c = turns-done recordIn recordSize flattenRecord (c .before .before .before .before .before .before .args .xs .now) (c .before .before .before .before .before .before .args .c) _ _ _ (c .before .before .before .before .before .before .args .n) _ _ _ _ _ (c .before .loop .inv .0) (omega arith)
+
+pub fill-records-spec : {M : Type 1} → statement M
+fill-records-spec =
+    tie.close
+    (tie.spec
+    Inv-loop
+    μ-loop
+    loop-holds
+    fill-record-requires
+    (λ c. search needs)
+    (λ c. search needs)
+    loop-again
+    (λ c. search needs)
+    (λ c. search needs)
+    (λ c. search needs)
+    returns)

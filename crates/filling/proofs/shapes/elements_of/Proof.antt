@@ -1,0 +1,14 @@
+use mathlib.Core.Path.{refl}
+use native.Mathlib.Omega.{arith}
+use borrow.Author.Needs.{needs}
+use Rattle.filling.proofs.shapes.elements_of.Statement.{statement}
+use Rattle.filling.proofs.shapes.elements_of.Tie as tie
+
+returns : tie.Need-returns
+returns c = (rw (c .if1 .taken) refl, omega arith)
+
+returns-2 : tie.Need-returns-2
+returns-2 c = (rw (c .if1 .left) refl, omega arith)
+
+pub elements-of-spec : {M : Type 1} → statement M
+elements-of-spec = tie.close (tie.spec (λ c. search needs) returns (λ c. search needs) returns-2)

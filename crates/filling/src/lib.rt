@@ -1,0 +1,13 @@
+// Pass 2 of the reader: a sheet that pass 1 has accepted fills three lent slices, the record table (table) and the two pools
+// (elements, bytes).
+//
+// Relied on: the definitions of `layout`, the laws of `laws`, the leaf code of `fields`. Nothing is checked here: each `requires` is
+// what an accepted sheet keeps. Each contract says that the slices hold what the flattened pieces are, and else what they held.
+pub mod cursors;
+pub mod items;
+pub mod parts;
+pub mod pools;
+pub mod records;
+pub mod rows;
+pub mod shapes;
+pub mod sheets;

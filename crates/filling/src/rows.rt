@@ -1,0 +1,50 @@
+// Rows of the record table: the two numbers of a part, and the four of an item.
+ghost use mathlib.Core.List.{[], _∷_};
+ghost use mathlib.Core.Path.{_≡_};
+ghost use Prim.Native.Nat.{_+_, _≤_};
+ghost use lib.ListN.{length};
+ghost use lib.Seq.{sets};
+
+pub fn put_part(out: &mut [u64], w: usize, points: usize, text: usize)
+    requires { ⌜ w + 2 ≤ length (now out) ⌝ }
+    ensures { λ _. ⌜ now (out .exit) ≡ sets (now (out .entry)) w (points ∷ text ∷ []) ⌝ }
+{
+    out[w] = points as u64;
+    out[w + 1] = text as u64;
+}
+
+pub fn put_item(out: &mut [u64], w: usize, code: u16, kind: u8, scale: u8, value: usize)
+    requires { ⌜ w + 4 ≤ length (now out) ⌝ }
+    ensures { λ _. ⌜ now (out .exit) ≡ sets (now (out .entry)) w (code ∷ kind ∷ scale ∷ value ∷ []) ⌝ }
+{
+    out[w] = code as u64;
+    out[w + 1] = kind as u64;
+    out[w + 2] = scale as u64;
+    out[w + 3] = value as u64;
+}
+
+// The eight numbers of a record.
+pub fn put_record(
+    out: &mut [u64],
+    w: usize,
+    code: u32,
+    in_group: u16,
+    group: u16,
+    reference: u32,
+    generalisation: u8,
+    word: u32,
+    parts: usize,
+    items: usize,
+)
+    requires { ⌜ w + 8 ≤ length (now out) ⌝ }
+    ensures { λ _. ⌜ now (out .exit) ≡ sets (now (out .entry)) w (code ∷ «in_group» ∷ group ∷ reference ∷ generalisation ∷ word ∷ parts ∷ items ∷ []) ⌝ }
+{
+    out[w] = code as u64;
+    out[w + 1] = in_group as u64;
+    out[w + 2] = group as u64;
+    out[w + 3] = reference as u64;
+    out[w + 4] = generalisation as u64;
+    out[w + 5] = word as u64;
+    out[w + 6] = parts as u64;
+    out[w + 7] = items as u64;
+}

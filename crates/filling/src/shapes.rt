@@ -1,0 +1,75 @@
+// What a record's reference bytes say of its parts: element size, floating, three dimensions, text in the metric.
+ghost use mathlib.Core.Bool.{true, false};
+ghost use mathlib.Core.Path.{_≡_};
+ghost use Prim.Native.Nat.{_*_, _≤_, _<_, _^_};
+ghost use Rattle.filling.specs.Parts.{shapeOf, dimensions, pointOf};
+ghost use Rattle.layout.specs.Shared.Widths.{pointBytes};
+
+pub struct Shape {
+    pub size: bool,
+    pub float: bool,
+    pub three: bool,
+    pub text: bool,
+}
+
+pub fn shape_of(b20: u8, b21: u8, b22: u8) -> Shape
+    ensures { λ r. ⌜ r ≡ shapeOf (record { byte20 = b20; byte21 = b21; byte22 = b22 }) ⌝ }
+{
+    Shape {
+        size: b21 / 4 % 2 == 1,
+        float: b22 / 4 % 2 == 1,
+        three: b22 / 2 % 2 == 1,
+        text: b22 / 8 % 2 == 1,
+    }
+}
+
+// How many elements so many points have.
+pub fn elements_of(count: usize, three: bool) -> usize
+    requires { ⌜ count < 2 ^ 32 ⌝ }
+    ensures { λ r. ⌜ (r ≡ count * dimensions three) × (r < 2 ^ 34) ⌝ }
+{
+    if three {
+        return count * 3;
+    }
+    count * 2
+}
+
+fn two_dimensions(size: bool, float: bool) -> usize
+    ensures { λ r. ⌜ (r ≡ pointBytes size float false) × (r ≤ 24) ⌝ }
+{
+    if size {
+        if float {
+            return 16;
+        }
+        return 8;
+    }
+    if float {
+        return 8;
+    }
+    4
+}
+
+fn three_dimensions(size: bool, float: bool) -> usize
+    ensures { λ r. ⌜ (r ≡ pointBytes size float true) × (r ≤ 24) ⌝ }
+{
+    if size {
+        if float {
+            return 24;
+        }
+        return 12;
+    }
+    if float {
+        return 12;
+    }
+    8
+}
+
+// How many bytes a point has.
+pub fn point_size(s: Shape) -> usize
+    ensures { λ r. ⌜ (r ≡ pointOf s) × (r ≤ 24) ⌝ }
+{
+    if s.three {
+        return three_dimensions(s.size, s.float);
+    }
+    two_dimensions(s.size, s.float)
+}
