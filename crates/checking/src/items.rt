@@ -1,4 +1,5 @@
 // The items of a record's semantics.
+ghost use mathlib.Core.Bool.{true, false};
 ghost use mathlib.Core.Path.{_≡_};
 ghost use Prim.Native.Nat.{ℕ, _+_, _*_, _≤_, _<_, _^_};
 ghost use lib.ListN.{length, drop};
@@ -32,49 +33,35 @@ pub struct Shape {
     pub closing: usize,
 }
 
+// The shape of a known type other than 128: its value starts after the head.
+fn plain(good_scale: bool, size: usize, closing: usize) -> Shape
+    ensures { λ r. ⌜ r ≡ record { known = true; long = false; «good_scale» = «good_scale»; at = 4; size = size; closing = closing } ⌝ }
+{
+    Shape {
+        known: true,
+        long: false,
+        good_scale,
+        at: 4,
+        size,
+        closing,
+    }
+}
+
 fn shape_of(t: u8, scale: u8) -> Shape
     ensures { λ r. ⌜ (r ≡ shapeOf (kindOf t) scale) × (4 ≤ r .at) × (r .at ≤ 8) × (r .size ≤ 512) × (r .closing ≤ 2) ⌝ }
 {
     let n = scale as usize + 1;
     if (t == 0) | (t == 126) {
-        return Shape {
-            known: true,
-            long: false,
-            good_scale: true,
-            at: 4,
-            size: n,
-            closing: 1,
-        };
+        return plain(true, n, 1);
     }
     if t == 127 {
-        return Shape {
-            known: true,
-            long: false,
-            good_scale: true,
-            at: 4,
-            size: 2 * n,
-            closing: 2,
-        };
+        return plain(true, 2 * n, 2);
     }
     if ((t == 1) | (t == 2)) | (t == 4) {
-        return Shape {
-            known: true,
-            long: false,
-            good_scale: !(scale == 0x80),
-            at: 4,
-            size: t as usize,
-            closing: 0,
-        };
+        return plain(!(scale == 0x80), t as usize, 0);
     }
     if t == 8 {
-        return Shape {
-            known: true,
-            long: false,
-            good_scale: true,
-            at: 4,
-            size: 8,
-            closing: 0,
-        };
+        return plain(true, 8, 0);
     }
     if t == 128 {
         return Shape {

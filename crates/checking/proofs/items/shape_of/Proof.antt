@@ -5,16 +5,16 @@ use Rattle.checking.proofs.items.shape_of.Statement.{statement}
 use Rattle.checking.proofs.items.shape_of.Tie as tie
 
 returns : tie.Need-returns
-returns c = (simp (c .if1 .taken), omega arith, omega arith, omega arith, omega arith)
+returns c = rw (c .plain .ensures) (simp (c .before .if1 .taken), omega arith, omega arith, omega arith, omega arith)
 
 returns-2 : tie.Need-returns-2
-returns-2 c = (simp (c .before .if1 .left, eq-eqb _ _ (c .if2 .taken)), omega arith, omega arith, omega arith, omega arith)
+returns-2 c = rw (c .plain2 .ensures) (simp (c .before .before .if1 .left, eq-eqb _ _ (c .before .if2 .taken)), omega arith, omega arith, omega arith, omega arith)
 
 returns-3 : tie.Need-returns-3
-returns-3 c = (simp (c .before .before .if1 .left, ne-eqb _ _ (c .before .if2 .left), c .if3 .taken), omega arith, omega arith, omega arith, omega arith)
+returns-3 c = rw (c .plain3 .ensures) (simp (c .before .before .before .if1 .left, ne-eqb _ _ (c .before .before .if2 .left), c .before .if3 .taken), omega arith, omega arith, omega arith, omega arith)
 
 returns-4 : tie.Need-returns-4
-returns-4 c = (simp (c .before .before .before .if1 .left, ne-eqb _ _ (c .before .before .if2 .left), c .before .if3 .left, eq-eqb _ _ (c .if4 .taken)), omega arith, omega arith, omega arith, omega arith)
+returns-4 c = rw (c .plain4 .ensures) (simp (c .before .before .before .before .if1 .left, ne-eqb _ _ (c .before .before .before .if2 .left), c .before .before .if3 .left, eq-eqb _ _ (c .before .if4 .taken)), omega arith, omega arith, omega arith, omega arith)
 
 returns-5 : tie.Need-returns-5
 returns-5 c = (simp (c .before .before .before .before .if1 .left, ne-eqb _ _ (c .before .before .before .if2 .left), c .before .before .if3 .left, ne-eqb _ _ (c .before .if4 .left), eq-eqb _ _ (c .if5 .taken)), omega arith, omega arith, omega arith, omega arith)
@@ -24,4 +24,17 @@ returns-6 c = (simp (c .before .before .before .before .if1 .left, ne-eqb _ _ (c
 
 pub shape-of-spec : {M : Type 1} → statement M
 shape-of-spec =
-    tie.close (tie.spec (λ c. search needs) returns (λ c. search needs) returns-2 returns-3 returns-4 returns-5 returns-6)
+    tie.close
+    (tie.spec
+    (λ c. search needs)
+    (λ c κs. search needs)
+    returns
+    (λ c. search needs)
+    (λ c κs. search needs)
+    returns-2
+    (λ c κs. search needs)
+    returns-3
+    (λ c κs. search needs)
+    returns-4
+    returns-5
+    returns-6)

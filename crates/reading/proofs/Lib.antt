@@ -1,0 +1,9 @@
+-- First what is promised besides the contracts: one answer for each input; then what the functions' proofs rest on.
+pub mod Once
+pub mod Settings
+pub mod Seen
+pub mod Unfolding
+pub mod Hop
+pub mod One
+pub mod Accepted
+pub mod Asked

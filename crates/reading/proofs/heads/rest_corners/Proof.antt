@@ -1,0 +1,20 @@
+use borrow.Author.Needs.{needs}
+use Rattle.reading.proofs.heads.rest_corners.Statement.{statement}
+use Rattle.reading.proofs.heads.rest_corners.Tie as tie
+
+returns : tie.Need-returns
+returns c = rw (c .before .before .before .before .before .before .before .u64-at .ensures, c .before .before .before .before .before .before .u64-at2 .ensures, c .before .before .before .before .before .u64-at3 .ensures, c .before .before .before .before .u64-at4 .ensures, c .before .before .before .u64-at5 .ensures, c .before .before .u64-at6 .ensures, c .before .u64-at7 .ensures, c .u64-at8 .ensures)
+
+pub rest-corners-spec : {M : Type 1} → statement M
+rest-corners-spec =
+    tie.close
+    (tie.spec
+    (λ c κs. search needs)
+    (λ c κs. search needs)
+    (λ c κs. search needs)
+    (λ c κs. search needs)
+    (λ c κs. search needs)
+    (λ c κs. search needs)
+    (λ c κs. search needs)
+    (λ c κs. search needs)
+    returns)

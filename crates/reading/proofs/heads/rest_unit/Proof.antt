@@ -1,0 +1,17 @@
+use borrow.Author.Needs.{needs}
+use Rattle.reading.proofs.heads.rest_unit.Statement.{statement}
+use Rattle.reading.proofs.heads.rest_unit.Tie as tie
+
+returns : tie.Need-returns
+returns c = rw (c .unit-of .ensures, c .before .before .before .before .u8-at .ensures, c .before .before .before .u32-at .ensures, c .before .before .u8-at2 .ensures, c .before .u8-at3 .ensures)
+
+pub rest-unit-spec : {M : Type 1} → statement M
+rest-unit-spec =
+    tie.close
+    (tie.spec
+    (λ c κs. search needs)
+    (λ c κs. search needs)
+    (λ c κs. search needs)
+    (λ c κs. search needs)
+    (λ c κs. search needs)
+    returns)

@@ -1,0 +1,119 @@
+// A record asked for by its number, from 0. (01, Reading: "place, total length, its eight numbers and its first part's points")
+ghost use mathlib.Core.Path.{_≡_};
+ghost use Prim.Native.Nat.{_+_, _-_, _*_, _/_, _≤_};
+ghost use lib.ListN.{length};
+ghost use Rattle.layout.specs.Answers.Calls.{andThen, asked, recordOf};
+ghost use Rattle.layout.specs.Answers.Enums.{foundOf};
+ghost use Rattle.layout.specs.Reading.Hops.{placeIn};
+ghost use Rattle.layout.specs.Reading.Records.{headerIn};
+ghost use Rattle.layout.specs.Reading.Sheets.{start, sheetWalk};
+ghost use Rattle.layout.specs.Shared.Mark.{firstCount};
+ghost use Rattle.layout.specs.Shared.Row.{referenceNumber};
+ghost use Rattle.layout.specs.Walk.{answer, upTo};
+ghost use Rattle.reading.specs.Found.{AcceptedAt, Hops, recordBy};
+use crate::sheets::check;
+use checking::records;
+use checking::tally::Counted;
+use fields::numbers;
+use layout::Checked;
+use layout::Found;
+use layout::RecordAt;
+use layout::Refusal;
+use views::setting::Setting;
+
+// Where the record of a number starts: from header to header, by their total lengths.
+fn place_of(s: &[u8], number: u32) -> usize
+    requires { ⌜ Hops number 452 (now s) ⌝ }
+    ensures { λ r. ⌜ r ≡ placeIn number 452 (now (s .entry)) ⌝ }
+{
+    let mut left = number;
+    let mut at: usize = 452;
+    while 0 < left {
+        let total = numbers::u32_at(s, at + 4) as usize;
+        at += total;
+        left -= 1;
+    }
+    at
+}
+
+fn reference_number(b20: u8, b21: u8, b22: u8) -> u32
+    ensures { λ r. ⌜ r ≡ referenceNumber (record { byte20 = b20; byte21 = b21; byte22 = b22 }) ⌝ }
+{
+    (b20 as u32) + 256 * (b21 as u32) + 65536 * (b22 as u32)
+}
+
+// The first part's count: under the mark 65535 it is the word.
+fn first_points(points: u16, word: u32) -> u32
+    ensures { λ r. ⌜ r ≡ firstCount points word ⌝ }
+{
+    if points == 65535 {
+        return word;
+    }
+    points as u32
+}
+
+// How many items a record has, by its count of numbers: eight, two for each part, four for each item.
+fn items_of(numbers: usize, subobjects: u16) -> usize
+    ensures { λ r. ⌜ r ≡ (numbers - (10 + 2 * subobjects)) / 4 ⌝ }
+{
+    let others = 10 + 2 * (subobjects as usize);
+    if numbers < others {
+        return 0;
+    }
+    (numbers - others) / 4
+}
+
+// The record that starts at a place, with xs from there on, by its header and its count of numbers.
+fn record_by(xs: &[u8], place: usize, count: usize) -> RecordAt
+    requires { ⌜ 32 ≤ length (now xs) ⌝ }
+    ensures { λ r. ⌜ r ≡ recordBy place count (headerIn (now (xs .entry))) ⌝ }
+{
+    let b20 = numbers::u8_at(xs, 20);
+    let b21 = numbers::u8_at(xs, 21);
+    let b22 = numbers::u8_at(xs, 22);
+    let word = numbers::u32_at(xs, 24);
+    let subobjects = numbers::u16_at(xs, 28);
+    RecordAt {
+        place,
+        total: numbers::u32_at(xs, 4) as usize,
+        code: numbers::u32_at(xs, 12),
+        in_group: numbers::u16_at(xs, 16),
+        group: numbers::u16_at(xs, 18),
+        reference: reference_number(b20, b21, b22),
+        generalisation: numbers::u8_at(xs, 23),
+        word,
+        parts: 1 + (subobjects as u32),
+        items: items_of(count, subobjects),
+        points: first_points(numbers::u16_at(xs, 30), word),
+    }
+}
+
+// The record of a number, of a sheet that is accepted at a year and has so many records.
+fn record_in(s: &[u8], year: u32, number: u32, count: u32) -> Found
+    requires { ⌜ AcceptedAt (now s) year count ⌝ }
+    ensures { λ r. ⌜ r ≡ foundOf (andThen (answer (upTo year) (sheetWalk (now (s .entry)))) (λ t. recordOf start (t .records) number)) ⌝ }
+{
+    if count <= number {
+        return Found::Refused(Refusal {
+            number: 16,
+            place: 0,
+            year: 0,
+        });
+    }
+    let at = place_of(s, number);
+    let xs = numbers::rest(s, at);
+    match records::one_record(xs, at, year) {
+        Counted::Fine(t) => Found::Record(record_by(xs, at, t.numbers)),
+        Counted::Refused(r) => Found::Refused(r),
+    }
+}
+
+// A number that is not below the count is refused after the sheet's own refusals.
+pub fn record_at(s: &[u8], at: Setting, number: u32) -> Found
+    ensures { λ r. ⌜ r ≡ foundOf (asked (at .year) (now (s .entry)) number) ⌝ }
+{
+    match check(s, at) {
+        Checked::Accepted(sizes) => record_in(s, at.year(), number, sizes.records),
+        Checked::Refused(r) => Found::Refused(r),
+    }
+}

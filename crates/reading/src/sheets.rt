@@ -1,0 +1,66 @@
+// A sheet is checked, or unfolded into three lent slices.
+ghost use mathlib.Core.Path.{_≡_};
+ghost use lib.ListN.{length};
+ghost use Rattle.layout.specs.Answers.Calls.{reading, roomy, unfolded, lent};
+ghost use Rattle.layout.specs.Answers.Enums.{checkedOf};
+ghost use Rattle.reading.specs.Rooms.{rooms, theNumbers, theElements, theBytes};
+use checking::sheets::check_sheet;
+use filling::sheets::fill_sheet;
+use layout::Checked;
+use layout::Refusal;
+use views::setting::Made;
+use views::setting::Setting;
+
+// The sizes of what unfolding the sheet gives, or the refusal. The setting is made anew, so that the answer does not rest on who made
+// it: a year that is none of the nine is refused first. (01, Order)
+pub fn check(s: &[u8], at: Setting) -> Checked
+    ensures { λ r. ⌜ r ≡ checkedOf (reading (at .year) (now (s .entry))) ⌝ }
+{
+    match Setting::new(at.year()) {
+        Made::At(known) => check_sheet(s, known.year()),
+        Made::Refused(r) => Checked::Refused(r),
+    }
+}
+
+// The record table of the sheet goes to the start of the three slices. Nothing is written before it is known that all of it fits.
+pub fn unfold(
+    s: &[u8],
+    at: Setting,
+    table: &mut [u64],
+    elements: &mut [u64],
+    bytes: &mut [u8],
+) -> Checked
+    ensures answers { λ r. ⌜ r ≡ checkedOf (roomy (at .year) (now (s .entry)) (rooms (now (table .entry)) (now (elements .entry)) (now (bytes .entry)))) ⌝ }
+    ensures numbers { λ _. ⌜ now (table .exit) ≡ lent theNumbers (unfolded (at .year) (now (s .entry)) (rooms (now (table .entry)) (now (elements .entry)) (now (bytes .entry)))) (now (table .entry)) ⌝ }
+    ensures pool { λ _. ⌜ now (elements .exit) ≡ lent theElements (unfolded (at .year) (now (s .entry)) (rooms (now (table .entry)) (now (elements .entry)) (now (bytes .entry)))) (now (elements .entry)) ⌝ }
+    ensures texts { λ _. ⌜ now (bytes .exit) ≡ lent theBytes (unfolded (at .year) (now (s .entry)) (rooms (now (table .entry)) (now (elements .entry)) (now (bytes .entry)))) (now (bytes .entry)) ⌝ }
+{
+    match check(s, at) {
+        Checked::Accepted(sizes) => {
+            if table.len() < sizes.numbers {
+                return Checked::Refused(Refusal {
+                    number: 15,
+                    place: 1,
+                    year: 0,
+                });
+            }
+            if elements.len() < sizes.elements {
+                return Checked::Refused(Refusal {
+                    number: 15,
+                    place: 2,
+                    year: 0,
+                });
+            }
+            if bytes.len() < sizes.bytes {
+                return Checked::Refused(Refusal {
+                    number: 15,
+                    place: 3,
+                    year: 0,
+                });
+            }
+            fill_sheet(s, table, elements, bytes);
+            Checked::Accepted(sizes)
+        }
+        Checked::Refused(r) => Checked::Refused(r),
+    }
+}
