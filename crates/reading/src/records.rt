@@ -1,4 +1,5 @@
-// A record asked for by its number, from 0. (01, Reading: "place, total length, its eight numbers and its first part's points")
+// A record asked for by its number, from 0. (01, The record table: "answers place, total length, its eight numbers and its first part's
+// points")
 ghost use mathlib.Core.Path.{_≡_};
 ghost use Prim.Native.Nat.{_+_, _-_, _*_, _/_, _≤_};
 ghost use lib.ListN.{length};

@@ -12,7 +12,7 @@ use views::setting::Made;
 use views::setting::Setting;
 
 // The sizes of what unfolding the sheet gives, or the refusal. The setting is made anew, so that the answer does not rest on who made
-// it: a year that is none of the nine is refused first. (01, Order)
+// it: a year that is none of the nine is refused first. (01, The refusals: "Order: setting, TOO LONG, ..")
 pub fn check(s: &[u8], at: Setting) -> Checked
     ensures { λ r. ⌜ r ≡ checkedOf (reading (at .year) (now (s .entry))) ⌝ }
 {
