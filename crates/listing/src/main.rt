@@ -7,7 +7,7 @@ use layout::Checked;
 use layout::Found;
 use layout::RecordAt;
 use layout::Refusal;
-use views::setting::Setting;
+use reading::setting::Setting;
 
 fn number(n: u64) {
     io::write_all(1, b" ");

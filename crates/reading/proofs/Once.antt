@@ -20,7 +20,7 @@ use mathlib.Core.List.{List}
 use mathlib.Core.Path.{_≡_, sym, _∙_}
 
 -- of a function with parameters ps and the result r; e and f are what stands in the parameters as it returns
-abbrev Once : {n : _} (ps : List (PK n)) (r : RK n) → Out n ps r → Type 0
+abbrev pub Once : {n : _} (ps : List (PK n)) (r : RK n) → Out n ps r → Type 0
 Once {n} ps r Post = (κs : Lfts n) (a : Dens κs ps) (x y : resT r κs .Denot) (e f : AtExit (endedOf n ps r) κs) → Post κs a x e → Post κs a y f → x ≡ y
 
 pub once-check : Once check-kinds.ps check-kinds.r check-sheet.Post

@@ -1,0 +1,3 @@
+-- First what is promised besides the contracts: one answer for each input; then what the functions' proofs rest on.
+pub mod Once
+pub mod Settings

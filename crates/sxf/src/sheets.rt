@@ -1,0 +1,79 @@
+// A sheet is checked, or unfolded into three lent slices, at a year.
+ghost use mathlib.Core.Path.{_≡_};
+ghost use Rattle.layout.specs.Answers.Calls.{reading, roomy, unfolded, lent};
+ghost use Rattle.layout.specs.Answers.Enums.{checkedOf};
+ghost use Rattle.reading.specs.Rooms.{rooms, theNumbers, theElements, theBytes};
+ghost use Rattle.sxf.specs.Answers.{checkedRow};
+use layout::Checked;
+use reading::setting::Made;
+use reading::setting::Setting;
+use reading::sheets;
+
+// number 0: accepted, with its sizes. Otherwise the refusal, and the sizes are 0.
+#[repr(C)]
+pub struct SxfChecked {
+    pub number: u64,
+    pub place: u64,
+    pub year: u64,
+    pub sum: u64,
+    pub records: u64,
+    pub numbers: u64,
+    pub elements: u64,
+    pub bytes: u64,
+}
+
+fn checked_row(c: Checked) -> SxfChecked
+    ensures { λ r. ⌜ r ≡ checkedRow c ⌝ }
+{
+    match c {
+        Checked::Accepted(z) => SxfChecked {
+            number: 0,
+            place: 0,
+            year: 0,
+            sum: z.sum as u64,
+            records: z.records as u64,
+            numbers: z.numbers as u64,
+            elements: z.elements as u64,
+            bytes: z.bytes as u64,
+        },
+        Checked::Refused(r) => SxfChecked {
+            number: r.number as u64,
+            place: r.place as u64,
+            year: r.year as u64,
+            sum: 0,
+            records: 0,
+            numbers: 0,
+            elements: 0,
+            bytes: 0,
+        },
+    }
+}
+
+#[no_mangle]
+pub extern "C" fn sxf_check(sheet: &[u8], year: u32) -> SxfChecked
+    ensures { λ r. ⌜ r ≡ checkedRow (checkedOf (reading year (now (sheet .entry)))) ⌝ }
+{
+    match Setting::new(year) {
+        Made::At(at) => checked_row(sheets::check(sheet, at)),
+        Made::Refused(r) => checked_row(Checked::Refused(r)),
+    }
+}
+
+#[no_mangle]
+pub extern "C" fn sxf_unfold(
+    sheet: &[u8],
+    year: u32,
+    table: &mut [u64],
+    elements: &mut [u64],
+    bytes: &mut [u8],
+) -> SxfChecked
+    ensures answers { λ r. ⌜ r ≡ checkedRow (checkedOf (roomy year (now (sheet .entry)) (rooms (now (table .entry)) (now (elements .entry)) (now (bytes .entry))))) ⌝ }
+    ensures numbers { λ _. ⌜ now (table .exit) ≡ lent theNumbers (unfolded year (now (sheet .entry)) (rooms (now (table .entry)) (now (elements .entry)) (now (bytes .entry)))) (now (table .entry)) ⌝ }
+    ensures pool { λ _. ⌜ now (elements .exit) ≡ lent theElements (unfolded year (now (sheet .entry)) (rooms (now (table .entry)) (now (elements .entry)) (now (bytes .entry)))) (now (elements .entry)) ⌝ }
+    ensures texts { λ _. ⌜ now (bytes .exit) ≡ lent theBytes (unfolded year (now (sheet .entry)) (rooms (now (table .entry)) (now (elements .entry)) (now (bytes .entry)))) (now (bytes .entry)) ⌝ }
+{
+    match Setting::new(year) {
+        Made::At(at) => checked_row(sheets::unfold(sheet, at, table, elements, bytes)),
+        Made::Refused(r) => checked_row(Checked::Refused(r)),
+    }
+}
