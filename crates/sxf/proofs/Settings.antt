@@ -2,7 +2,7 @@
 use Prim.Native.Nat.{ℕ}
 use mathlib.Core.List.{List}
 use mathlib.Core.Path.{_≡_, refl, sym, ap, subst, _∙_}
-use Rattle.layout.specs.Answers.Calls.{reading, roomy, unfolded, lent}
+use Rattle.layout.specs.Answers.Calls.{settingOf, reading, roomy, unfolded, lent}
 use Rattle.layout.specs.Answers.Enums.{checkedOf}
 use Rattle.layout.specs.declared.Checked.the-variants as Check
 use Rattle.layout.specs.declared.Checked.{Checked}
@@ -20,11 +20,11 @@ use Rattle.views.specs.declared.setting.Made.the-variants.{At, Refused}
 use Rattle.views.specs.declared.setting.Made.{Made}
 use Rattle.views.specs.declared.setting.Setting.{Setting}
 
-pub check-known : (y : ℕ) (k : Setting) (s : List ℕ) (m : Made) (c : Checked) (r : SxfChecked) → m ≡ madeOf y → m ≡ At k
+pub check-known : (y : ℕ) (k : Setting) (s : List ℕ) (m : Made) (c : Checked) (r : SxfChecked) → m ≡ madeOf (settingOf y) → m ≡ At k
     → c ≡ checkedOf (reading (k .year) s) → r ≡ checkedRow c → r ≡ checkedRow (checkedOf (reading y s))
 check-known y k s m c r e a h q = q ∙ ap checkedRow (h ∙ ap (λ z. checkedOf (reading z s)) (made-nine y k (sym e ∙ a) .0))
 
-pub check-unknown : (y : ℕ) (q : Refusal) (s : List ℕ) (m : Made) (r : SxfChecked) → m ≡ madeOf y → m ≡ Refused q
+pub check-unknown : (y : ℕ) (q : Refusal) (s : List ℕ) (m : Made) (r : SxfChecked) → m ≡ madeOf (settingOf y) → m ≡ Refused q
     → r ≡ checkedRow (Check.Refused q) → r ≡ checkedRow (checkedOf (reading y s))
 check-unknown y q s m r e a h = h ∙ ap checkedRow (at-unknown y y q s m refl e a)
 
@@ -34,14 +34,14 @@ Told y s t₀ e₀ b₀ t₁ e₁ b₁ r =
     let u : Answer Table = unfolded y s (rooms t₀ e₀ b₀) in
     (r ≡ checkedRow (checkedOf (roomy y s (rooms t₀ e₀ b₀)))) × ((t₁ ≡ lent theNumbers u t₀) × ((e₁ ≡ lent theElements u e₀) × (b₁ ≡ lent theBytes u b₀)))
 
-pub unfold-known : (y : ℕ) (k : Setting) (s t₀ e₀ b₀ t₁ e₁ b₁ : List ℕ) (m : Made) (c : Checked) (r : SxfChecked) → m ≡ madeOf y → m ≡ At k
+pub unfold-known : (y : ℕ) (k : Setting) (s t₀ e₀ b₀ t₁ e₁ b₁ : List ℕ) (m : Made) (c : Checked) (r : SxfChecked) → m ≡ madeOf (settingOf y) → m ≡ At k
     → c ≡ checkedOf (roomy (k .year) s (rooms t₀ e₀ b₀)) → t₁ ≡ lent theNumbers (unfolded (k .year) s (rooms t₀ e₀ b₀)) t₀
     → e₁ ≡ lent theElements (unfolded (k .year) s (rooms t₀ e₀ b₀)) e₀ → b₁ ≡ lent theBytes (unfolded (k .year) s (rooms t₀ e₀ b₀)) b₀
     → r ≡ checkedRow c → Told y s t₀ e₀ b₀ t₁ e₁ b₁ r
 unfold-known y k s t₀ e₀ b₀ t₁ e₁ b₁ m c r e a answers numbers pool texts q =
     subst (λ z. Told z s t₀ e₀ b₀ t₁ e₁ b₁ r) (made-nine y k (sym e ∙ a) .0) (q ∙ ap checkedRow answers, (numbers, (pool, texts)))
 
-pub unfold-unknown : (y : ℕ) (q : Refusal) (s t₀ e₀ b₀ : List ℕ) (m : Made) (r : SxfChecked) → m ≡ madeOf y → m ≡ Refused q
+pub unfold-unknown : (y : ℕ) (q : Refusal) (s t₀ e₀ b₀ : List ℕ) (m : Made) (r : SxfChecked) → m ≡ madeOf (settingOf y) → m ≡ Refused q
     → r ≡ checkedRow (Check.Refused q) → Told y s t₀ e₀ b₀ t₀ e₀ b₀ r
 unfold-unknown y q s t₀ e₀ b₀ m r e a h =
     let u = refused-right y s t₀ e₀ b₀ q (Check.Refused q) (at-unknown y y q s m refl e a) refl in

@@ -1,13 +1,14 @@
--- The number of an item by the bits of its value is the one that `layout` gives the item.
-use Prim.Native.Nat.{ℕ, zero, suc, _%_, _^_, _<_}
+-- An item by its value as a number: what its bytes are, and that an item's own value gives what the item itself does.
+use Prim.Native.Nat.{ℕ, zero, suc, _*_, _/_, _%_, _^_, _≤_, _<_}
 use Rattle.layout.specs.Answers.Values.{valueIn, semanticValue}
-use Rattle.layout.specs.Bytes.{Bytes, number}
+use Rattle.layout.specs.Bytes.{Bytes, number, bytes}
 use Rattle.layout.specs.Shared.Types.{Kind, narrow, wide, long, integer, double, unknown, kindOf}
 use Rattle.layout.specs.Sheet.{Item}
-use Rattle.views.proofs.Integers.{width}
-use Rattle.views.specs.Values.{valueBy, valueOf}
+use Rattle.views.proofs.Integers.{width, integer-width}
+use Rattle.views.specs.Values.{itemOf}
+use lib.Arith.{mod-mul}
 use mathlib.Core.List.{List, [], _∷_}
-use mathlib.Core.Path.{_≡_, refl, ap, _∙_}
+use mathlib.Core.Path.{_≡_, refl, sym, ap, _∙_}
 use native.Mathlib.Nat.{mod-eq-of-lt, pow-zero, pow-succ', one-le-pow}
 use native.Mathlib.Omega.{arith}
 
@@ -16,20 +17,29 @@ number-lt zero xs h = omega (arith, pow-zero 256)
 number-lt (suc n) [] h = one-le-pow (suc n) 256 (omega arith)
 number-lt (suc n) (x ∷ xs) h = omega (arith, number-lt n xs (h .1), pow-succ' 256 n)
 
-by-kind : (k : Kind) (i : Item) (bits : ℕ) → Bytes (i .value) → ((n : ℕ) → k ≡ integer n → bits ≡ number n (i .value)) → valueBy k (i .type) (i .scale) bits ≡ valueIn k i
-by-kind narrow i bits h f = refl
-by-kind wide i bits h f = refl
-by-kind long i bits h f = refl
-by-kind (integer n) i bits h f =
-    let same : bits % 256 ^ n ≡ number n (i .value) = ap (λ (m : ℕ). m % 256 ^ n) (f n refl) ∙ mod-eq-of-lt (number-lt n (i .value) h) in
-    rw same
-by-kind double i bits h f = refl
-by-kind unknown i bits h f = refl
+-- the first n of m bytes of a number are its low ones
+pub number-low : (n m v : ℕ) → n ≤ m → number n (bytes m v) ≡ v % 256 ^ n
+number-low zero m v h = omega (arith, pow-zero 256)
+number-low (suc n) zero v h = absurd (omega arith)
+number-low (suc n) (suc m) v h =
+    let up : 256 ^ suc n ≡ 256 ^ n * 256 = omega (arith, pow-succ' 256 n) in
+    let split = mod-mul v {m = 256 ^ n} {c = 256} (one-le-pow n 256 (omega arith)) (omega arith) in
+    rw (number-low n m (v / 256) (omega arith)) (omega (arith, ap (λ (x : ℕ). v % x) up ∙ split))
 
--- bits are the number of an item whose type is an integer's; of another item any bits do
-pub value-is : (i : Item) (bits : ℕ) → Bytes (i .value) → ((n : ℕ) → kindOf (i .type) ≡ integer n → bits ≡ number n (i .value)) → valueOf (i .type) (i .scale) bits ≡ semanticValue i
-unfolding valueOf semanticValue
-value-is i bits h f = by-kind (kindOf (i .type)) i bits h f
+by-kind : (k : Kind) (i j : Item) → i .type ≡ j .type → i .scale ≡ j .scale → ((n : ℕ) → k ≡ integer n → number n (i .value) ≡ number n (j .value))
+    → valueIn k i ≡ valueIn k j
+by-kind narrow i j t s f = rw t
+by-kind wide i j t s f = rw t
+by-kind long i j t s f = rw t
+by-kind (integer n) i j t s f = rw (s, f n refl)
+by-kind double i j t s f = rw t
+by-kind unknown i j t s f = rw t
 
-pub item-value : (i : Item) → Bytes (i .value) → valueOf (i .type) (i .scale) (number (i .type) (i .value)) ≡ semanticValue i
-item-value i h = value-is i _ h (λ n e. ap (λ (m : ℕ). number m (i .value)) (width (i .type) n e))
+pub item-value : (i : Item) → Bytes (i .value) → semanticValue (itemOf (i .type) (i .scale) (number (i .type) (i .value))) ≡ semanticValue i
+unfolding semanticValue
+item-value i h =
+    by-kind (kindOf (i .type)) (itemOf (i .type) (i .scale) (number (i .type) (i .value))) i refl refl (λ n e.
+    let same : number (i .type) (i .value) ≡ number n (i .value) = ap (λ (m : ℕ). number m (i .value)) (width (i .type) n e) in
+    number-low n 4 (number (i .type) (i .value)) (integer-width (i .type) n e)
+    ∙ ap (λ (v : ℕ). v % 256 ^ n) same
+    ∙ mod-eq-of-lt (number-lt n (i .value) h))

@@ -1,7 +1,8 @@
 -- A setting that `new` makes is of the year that it was asked for, one of the nine.
 use Prim.Native.Nat.{ℕ}
+use Rattle.layout.specs.Answers.Calls.{settingOf}
+use Rattle.layout.specs.Walk.{given, refused}
 use Rattle.layout.specs.Years.{isSetting}
-use Rattle.layout.specs.declared.Refusal.{Refusal}
 use Rattle.views.specs.Settings.{madeOf}
 use Rattle.views.specs.declared.setting.Made.the-variants.{At, Refused}
 use Rattle.views.specs.declared.setting.Made.{Made}
@@ -11,19 +12,19 @@ use mathlib.Core.Bool.{Bool, true, false, cond, _||_, or-assoc, or-false}
 use mathlib.Core.Path.{_≡_, refl, sym, _∙_}
 use native.Mathlib.Omega.{arith}
 
-by-test : (test : Bool) (y : ℕ) (r : Refusal) (s : Setting) → isSetting y ≡ test → cond test (At (record { year = y })) (Refused r) ≡ At s → (s .year ≡ y) × (isSetting (s .year) ≡ true)
-by-test true y r s t e = let same : s .year ≡ y = cc in (same, rw same t)
-by-test false y r s t e = absurd (let z : _≡_ {A = ℕ} 0 1 = cc in omega arith)
-
-pub made-nine : (y : ℕ) (s : Setting) → madeOf y ≡ At s → (s .year ≡ y) × (isSetting (s .year) ≡ true)
+by-test : (test : Bool) (y : ℕ) (s : Setting) → isSetting y ≡ test → madeOf (cond test (given y) (refused 16 0 0)) ≡ At s → (s .year ≡ y) × (isSetting (s .year) ≡ true)
 unfolding madeOf
-made-nine y s e = by-test (isSetting y) y _ s refl e
+by-test true y s t e = let same : s .year ≡ y = cc in (same, rw same t)
+by-test false y s t e = absurd (let z : _≡_ {A = ℕ} 0 1 = cc in omega arith)
+
+pub made-nine : (y : ℕ) (s : Setting) → madeOf (settingOf y) ≡ At s → (s .year ≡ y) × (isSetting (s .year) ≡ true)
+made-nine y s e = by-test (isSetting y) y s refl e
 
 -- what `new` promises of its answer
 abbrev Right : ℕ → Made → Type 0
-Right y r = (r ≡ madeOf y) × ((s : Setting) → r ≡ At s → isSetting (s .year) ≡ true)
+Right y r = (r ≡ madeOf (settingOf y)) × ((s : Setting) → r ≡ At s → isSetting (s .year) ≡ true)
 
-right : (y : ℕ) (r : Made) → r ≡ madeOf y → Right y r
+right : (y : ℕ) (r : Made) → r ≡ madeOf (settingOf y) → Right y r
 right y r e = (e, λ s h. made-nine y s (sym e ∙ h) .1)
 
 -- the tests as the code has them, bracketed to the left

@@ -1,4 +1,4 @@
--- What `views` answers that `layout` does not define itself, each made of `layout`'s definitions.
+-- The cases of the answers whose types stand here, each with document 01's values; what is answered is `layout`'s to say.
 pub mod Settings
 pub mod Coordinates
 pub mod Values

@@ -1,5 +1,6 @@
 // Coordinates, each a type of its own for its unit, so that metres are never taken for radians. The fields are private: a coordinate
 // is made here alone, from the sheet's unit.
+ghost use Rattle.layout.specs.Answers.Units.{numberOf};
 ghost use Rattle.views.specs.Coordinates.{coordinateOf};
 ghost use mathlib.Core.Path.{_≡_};
 use layout::Number;
@@ -25,7 +26,7 @@ pub enum Coordinate {
 
 // The one way to make a coordinate.
 pub fn coordinate_of(unit: SheetUnit, element: Stored) -> Coordinate
-    ensures { λ r. ⌜ r ≡ coordinateOf unit element ⌝ }
+    ensures { λ r. ⌜ r ≡ coordinateOf unit (numberOf element) ⌝ }
 {
     let n = crate::units::number_of(element);
     match unit {

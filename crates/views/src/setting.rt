@@ -1,4 +1,5 @@
 // The nine years that a sheet can be read for. (01, Years: "fixed constants of the reader")
+ghost use Rattle.layout.specs.Answers.Calls.{settingOf};
 ghost use Rattle.layout.specs.Years.{isSetting};
 ghost use Rattle.views.specs.Settings.{madeOf};
 ghost use mathlib.Core.Bool.{true};
@@ -34,10 +35,9 @@ impl Setting {
 
     pub const Y2017: Setting = Setting { year: 2017 };
 
-    // For a year that comes from outside; the constants need no answer to be handled. The tests name the constants, so that this
-    // proof holds them to the years of the definition, in its order.
+    // For a year that comes from outside; the constants need no answer to be handled.
     pub fn new(year: u32) -> Made
-        ensures means { λ r. ⌜ r ≡ madeOf year ⌝ }
+        ensures means { λ r. ⌜ r ≡ madeOf (settingOf year) ⌝ }
         ensures nine { λ r. ⌜ ((s : Setting) → r ≡ Made.At s → isSetting (s .year) ≡ true) ⌝ }
     {
         if (year == Setting::Y1999.year)

@@ -1,6 +1,7 @@
 // The number of a semantic item of type 1, 2 or 4: a signed integer times ten to the signed scale. (01, Record)
+ghost use Rattle.layout.specs.Answers.Values.{semanticValue};
 ghost use Rattle.views.specs.Signed.{integerBy};
-ghost use Rattle.views.specs.Values.{valueOf};
+ghost use Rattle.views.specs.Values.{itemOf};
 ghost use mathlib.Core.Path.{_≡_};
 use crate::numbers::signed;
 use layout::Decimal;
@@ -27,7 +28,7 @@ fn integer(bits: u32, half: u32, scale: u8) -> SemanticValue
 // kind is the item's type, scale its scale byte, bits the stored value. Where kind is 1 or 2, only the low 8 or 16 bits of bits are the
 // value, and the rest is left out: so every u32 has an answer, and the answer of an item's own value is that of the item.
 pub fn value_of(kind: u8, scale: u8, bits: u32) -> SemanticValue
-    ensures { λ r. ⌜ r ≡ valueOf kind scale bits ⌝ }
+    ensures { λ r. ⌜ r ≡ semanticValue (itemOf kind scale bits) ⌝ }
 {
     match kind {
         1 => integer(bits % 256, 128, scale),

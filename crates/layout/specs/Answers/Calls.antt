@@ -23,6 +23,10 @@ andThen (refused number place year) f = refused number place year
 abbrev pub atSetting : {A : Type 0} → ℕ → Answer A → Answer A
 atSetting year a = cond (isSetting year) a (refused ASK 0 0)
 
+-- the setting of a year
+abbrev pub settingOf : ℕ → Answer ℕ
+settingOf year = atSetting year (given year)
+
 unfoldable pub reading : ℕ → List ℕ → Answer Sheet
 reading year s = atSetting year (answer (upTo year) (sheetWalk s))
 
