@@ -82,11 +82,11 @@ module _ (y p : ℕ) (xs : List ℕ) (r : Reference) (marked : Bool) where
     unfolding subobjectWalk
     subobject-count h = simp (le-leb 4 (length xs) l, ← e, h, add-zero)
 
-    pub subobject-then : (marked || eqb n1 0) ≡ true
-        → (k : Counted) → k ≡ shown (tally flattenPart) y (partWalk r (n2 + 65536 * n1) (p + 4) (take (length xs - 4) (drop 4 xs)))
+    pub subobject-then : (marked || eqb n1 0) ≡ true → (count : ℕ) → count ≡ n2 + 65536 * n1
+        → (k : Counted) → k ≡ shown (tally flattenPart) y (partWalk r count (p + 4) (take (length xs - 4) (drop 4 xs)))
         → next k (λ t. Fine (record { used = 4 + t .used; numbers = t .numbers; elements = t .elements; bytes = t .bytes }))
         ≡ shown (tally flattenPart) y (subobjectWalk r marked p xs)
     unfolding subobjectWalk
-    subobject-then h k g =
-        simp (le-leb 4 (length xs) l, ← e, ← f, h, g, rest)
+    subobject-then h count q k g =
+        simp (le-leb 4 (length xs) l, ← e, ← f, h, g, q, rest)
         (sym (shown-bind y (tally flattenPart) (tally flattenPart) (partWalk r (n2 + 65536 * n1) (p + 4) (drop 4 xs)) _ _ (λ a. refl)))
