@@ -1,6 +1,6 @@
 // Records: header, metric, semantics.
 ghost use mathlib.Core.Path.{_≡_};
-ghost use Prim.Native.Nat.{ℕ, _+_, _≤_, _<_, _^_};
+ghost use Prim.Native.Nat.{_+_, _<_, _^_};
 ghost use lib.ListN.{length};
 ghost use Rattle.checking.specs.Records.{Passed, restWalk, semanticsOf};
 ghost use Rattle.checking.specs.Tally.{shown, tally, Within, WithinT};

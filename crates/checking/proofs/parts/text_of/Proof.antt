@@ -1,6 +1,5 @@
 use mathlib.Core.Path.{refl}
 use native.Mathlib.Omega.{arith}
-use lib.ListN.{length}
 use Rattle.checking.proofs.Laws.Texts.{text-short, text-fine, text-open}
 use borrow.Author.Needs.{needs}
 use Rattle.checking.proofs.parts.text_of.Statement.{statement}

@@ -1,8 +1,6 @@
 use native.Mathlib.Omega.{arith}
-use mathlib.Core.Path.{_≡_, ap}
-use Prim.Native.Nat.{_+_, _≤_}
+use mathlib.Core.Path.{ap}
 use denote.Ref.{now}
-use lib.ListN.{length}
 use Rattle.checking.specs.declared.tally.Tally.{Tally}
 use Rattle.checking.proofs.Laws.Loop.{within-fine, within-more}
 use Rattle.checking.proofs.Laws.Records.{metric-length, semantics-length, rest-stop, rest-on}

@@ -1,5 +1,5 @@
 use native.Mathlib.Omega.{arith}
-use Rattle.filling.proofs.OneRecord.{record-header, record-metric, record-items, counted, record-moved, record-wrote, field-at, items-kept, header-room}
+use Rattle.filling.proofs.OneRecord.{record-header, record-metric, counted, record-moved, record-wrote, field-at, items-kept, header-room}
 use borrow.Author.Needs.{needs}
 use Rattle.filling.proofs.records.fill_record.Statement.{statement}
 use Rattle.filling.proofs.records.fill_record.Tie as tie
