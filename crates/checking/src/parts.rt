@@ -1,5 +1,5 @@
 // The parts of a record's metric: the first part and the subobjects, each of points and perhaps a text.
-ghost use mathlib.Core.Bool.{cond};
+ghost use mathlib.Core.Bool.{cond, true};
 ghost use mathlib.Core.Path.{_≡_};
 ghost use Prim.Native.Nat.{ℕ, _+_, _≤_, _<_, _^_};
 ghost use lib.ListN.{length};
@@ -14,6 +14,42 @@ use crate::tally::sum;
 use fields::numbers;
 use layout::Refusal;
 
+// A text: its length, its bytes and its closing zero.
+fn text_of(xs: &[u8], p: usize) -> Counted
+    requires { ⌜ p + length (now xs) < 2 ^ 32 ⌝ }
+    ensures means { λ r. ⌜ ((y : ℕ) → r ≡ shown (tally textTable) y (textWalk true p (now (xs .entry)))) ⌝ }
+    ensures within { λ r. ⌜ Within (length (now (xs .entry))) 0 r ⌝ }
+{
+    if xs.len() < 1 {
+        return Counted::Refused(Refusal {
+            number: 10,
+            place: p,
+            year: 0,
+        });
+    }
+    let n = numbers::u8_at(xs, 0) as usize;
+    if xs.len() < n + 2 {
+        return Counted::Refused(Refusal {
+            number: 10,
+            place: p,
+            year: 0,
+        });
+    }
+    if numbers::u8_at(xs, n + 1) == 0 {
+        return Counted::Fine(Tally {
+            used: n + 2,
+            numbers: 0,
+            elements: 0,
+            bytes: n,
+        });
+    }
+    Counted::Refused(Refusal {
+        number: 6,
+        place: p + (n + 1),
+        year: 0,
+    })
+}
+
 // The text at the end of a part, where it has one.
 pub fn text_end(xs: &[u8], p: usize, text: bool) -> Counted
     requires { ⌜ p + length (now xs) < 2 ^ 32 ⌝ }
@@ -21,34 +57,7 @@ pub fn text_end(xs: &[u8], p: usize, text: bool) -> Counted
     ensures within { λ r. ⌜ Within (length (now (xs .entry))) 0 r ⌝ }
 {
     if text {
-        if xs.len() < 1 {
-            return Counted::Refused(Refusal {
-                number: 10,
-                place: p,
-                year: 0,
-            });
-        }
-        let n = numbers::u8_at(xs, 0) as usize;
-        if xs.len() < n + 2 {
-            return Counted::Refused(Refusal {
-                number: 10,
-                place: p,
-                year: 0,
-            });
-        }
-        if numbers::u8_at(xs, n + 1) == 0 {
-            return Counted::Fine(Tally {
-                used: n + 2,
-                numbers: 0,
-                elements: 0,
-                bytes: n,
-            });
-        }
-        return Counted::Refused(Refusal {
-            number: 6,
-            place: p + (n + 1),
-            year: 0,
-        });
+        return text_of(xs, p);
     }
     Counted::Fine(Tally {
         used: 0,

@@ -1,11 +1,10 @@
 // Records: header, metric, semantics.
 ghost use mathlib.Core.Path.{_≡_};
-ghost use Prim.Native.Nat.{ℕ, _+_, _≤_, _<_, _^_};
+ghost use Prim.Native.Nat.{_+_, _<_, _^_};
 ghost use lib.ListN.{length};
 ghost use Rattle.checking.specs.Records.{Passed, restWalk, semanticsOf};
 ghost use Rattle.checking.specs.Tally.{shown, tally, Within, WithinT};
 ghost use Rattle.layout.specs.Reading.Records.{recordWalk};
-ghost use Rattle.layout.specs.Shared.Mark.{firstCount};
 ghost use Rattle.layout.specs.Walk.{times};
 ghost use Rattle.layout.specs.Writing.Tables.{joined, flattenRecord};
 use crate::headers;
@@ -15,19 +14,10 @@ use crate::parts;
 use crate::tally::Counted;
 use crate::tally::Tally;
 use crate::tally::sum;
+use fields::records::first_count;
 use fields::steps;
 use fields::steps::Step;
 use layout::Refusal;
-
-// The first part's count of points.
-fn first_count(points: u16, word: u32) -> usize
-    ensures { λ r. ⌜ (r ≡ firstCount points word) × (r < 2 ^ 32) ⌝ }
-{
-    if points == 65535 {
-        return word as usize;
-    }
-    points as usize
-}
 
 // What fills a record after its metric, where front is counted before it.
 fn semantics(xs: &[u8], p: usize, flag: bool, front: Tally, year: u32) -> Counted
@@ -56,7 +46,7 @@ fn rest(xs: &[u8], p: usize, h: Header, year: u32) -> Counted
 {
     let end = 32 + h.metric as usize;
     let total = h.total as usize;
-    let count = first_count(h.points, h.word);
+    let count = first_count(h.points, h.word) as usize;
     let marked = h.points == 65535;
     match parts::metric(
         &xs[32..end],

@@ -15,9 +15,8 @@ use Rattle.layout.specs.Bytes.{number, numbers, repeat}
 use Rattle.layout.specs.Shared.Widths.{elementWidths}
 use Rattle.layout.specs.Sheet.{Table}
 use Rattle.layout.specs.Writing.Tables.{table, flattenPart}
-use Rattle.laws.proofs.Base.Numbers.{length-repeat}
+use Rattle.laws.proofs.Base.Numbers.{length-numbers, length-repeat}
 use Rattle.filling.proofs.Elements.{text-takes}
-use Rattle.filling.proofs.Put.{length-numbers}
 
 pub widths-count : (size float three : Bool) → length (elementWidths size float three) ≡ dimensions three
 widths-count size float true = refl

@@ -2,7 +2,6 @@
 use mathlib.Core.List.{List, [], _∷_, _++_, append-assoc, append-nil}
 use mathlib.Core.Path.{_≡_, refl, sym, ap, ap₂, subst, _∙_}
 use Prim.Native.Nat.{ℕ, _+_, _-_, _/_, _≤_}
-use borrow.Author.Tests.{ne-eqb}
 use lib.ListN.{length, take, drop, length-append, length-drop}
 use lib.Seq.{sets, drop-drop, length-sets, length-take-le}
 use native.Mathlib.Omega.{arith}
@@ -81,12 +80,6 @@ module _ (xs : List ℕ) (s : Shape) (count n : ℕ) (c : Cursor) where
     metric-wrote t₀ e₀ b₀ t₁ e₁ b₁ t₂ e₂ b₂ u w =
         let v : Wrote (moved c k first) later t₁ e₁ b₁ t₂ e₂ b₂ = rw e at w in
         rw table-is (wrote-twice c k first later t₀ e₀ b₀ t₁ e₁ b₁ t₂ e₂ b₂ u v)
-
-pub count-mark : (points word : ℕ) → points ≡ 65535 → word ≡ firstCount points word
-count-mark points word e = rw e refl
-
-pub count-plain : (points word : ℕ) → (points ≡ 65535 → ⊥) → points ≡ firstCount points word
-count-plain points word e = rw (ne-eqb points 65535 e) refl
 
 -- slices that were written are as long as before
 pub room-kept : (c : Cursor) (k : ℕ) (a : Table) (xl : ℕ) (d : Cursor) (b : Table) (t₀ e₀ b₀ t₁ e₁ b₁ : List ℕ) → Wrote d b t₀ e₀ b₀ t₁ e₁ b₁

@@ -8,6 +8,7 @@ use lib.Seq.{sets, drop-drop, drop-cons, length-sets, set-comm}
 use native.Mathlib.Nat.{mul-suc, mul-zero, add-zero}
 use native.Mathlib.Omega.{arith}
 use Rattle.layout.specs.Bytes.{number, numbers, repeat, total}
+use Rattle.laws.proofs.Base.Numbers.{length-numbers}
 
 pub sets-append : (l : List ℕ) (i : ℕ) (a b : List ℕ) → sets l i (a ++ b) ≡ sets (sets l i a) (i + length a) b
 sets-append l i [] b = rw add-zero
@@ -28,10 +29,6 @@ pub numbers-append : (v ws xs : List ℕ) → numbers (v ++ ws) xs ≡ numbers v
 numbers-append [] ws xs = refl
 numbers-append (u ∷ v) ws xs =
     ap (λ l. number u xs ∷ l) (numbers-append v ws (drop u xs) ∙ ap (λ l. numbers v (drop u xs) ++ numbers ws l) (drop-drop (total v) u xs))
-
-pub length-numbers : (ws xs : List ℕ) → length (numbers ws xs) ≡ length ws
-length-numbers [] xs = refl
-length-numbers (w ∷ ws) xs = ap suc (length-numbers ws (drop w xs))
 
 repeat-cons : (n : ℕ) (ws : List ℕ) → 0 < n → repeat n ws ≡ ws ++ repeat (n - 1) ws
 repeat-cons zero ws h = absurd (omega arith)

@@ -26,8 +26,9 @@ use Rattle.layout.specs.Shared.Mark.{isMark}
 use Rattle.layout.specs.Shared.Reference.{semantics}
 use Rattle.layout.specs.Sheet.{Part, Record, Sheet}
 use Rattle.layout.specs.Walk.{outcome, ends, given, answer, always, must, Piece, piece, Pair, times, whole, fill}
+use Rattle.laws.proofs.Base.Valued.{Valued, whole-value, whole-inner, pair-valued}
 use Rattle.laws.proofs.Base.Walks.{given-inj, bind-case, checks-case, outcome-is}
-use Rattle.filling.proofs.Values.{Valued, times-valued, times-each, whole-value, whole-inner, fill-value, pair-valued, item-valued, part-valued, subobject-valued}
+use Rattle.filling.proofs.Values.{times-valued, times-each, fill-value, item-valued, part-valued, subobject-valued}
 
 module _ (al : ℕ → Bool) where
   metric-value : (h : Header) (p : ℕ) (ys : List ℕ) (v : Pair Part (List Part))

@@ -8,8 +8,6 @@ ghost use Rattle.filling.specs.Cursors.{ahead, moved, Room, Wrote};
 ghost use Rattle.filling.specs.Pieces.{Each};
 ghost use Rattle.filling.specs.Records.{recordIn, recordSize, recordsIn, recordsSize, metricSize, metricTable, partsSizeIn, partsTableIn, itemsSizeIn, itemsTableIn, rowOf, RecordFits, inside};
 ghost use Rattle.layout.specs.Reading.Records.{headerIn, semanticsIn};
-ghost use Rattle.layout.specs.Shared.Mark.{firstCount};
-ghost use Rattle.layout.specs.Shared.Row.{referenceNumber};
 ghost use Rattle.layout.specs.Writing.Tables.{joined, flattenRecord};
 use crate::cursors::Cursor;
 use crate::items;
@@ -18,6 +16,8 @@ use crate::rows;
 use crate::shapes;
 use crate::shapes::Shape;
 use fields::numbers;
+use fields::records::first_count;
+use fields::records::reference_number;
 
 // The first part, and so many later ones.
 fn fill_metric(
@@ -38,16 +38,6 @@ fn fill_metric(
 {
     let d = parts::fill_part(xs, s, count, c, table, elements, bytes);
     parts::fill_subobjects(xs, s, n, d, table, elements, bytes)
-}
-
-// The first part's count: under the mark 65535 it is the word.
-fn first_count(points: u16, word: u32) -> usize
-    ensures { λ r. ⌜ (r ≡ firstCount points word) × (r < 2 ^ 32) ⌝ }
-{
-    if points == 65535 {
-        return word as usize;
-    }
-    points as usize
 }
 
 // The metric of the record at a place; the cursor that comes back counts its place from the metric's start.
@@ -74,7 +64,7 @@ fn record_metric(
     );
     let word = numbers::u32_at(xs, at + 24);
     let n = numbers::u16_at(xs, at + 28) as usize;
-    let count = first_count(numbers::u16_at(xs, at + 30), word);
+    let count = first_count(numbers::u16_at(xs, at + 30), word) as usize;
     let d = Cursor {
         place: 0,
         numbers: c.numbers,
@@ -105,12 +95,6 @@ fn record_items(xs: &[u8], c: Cursor, table: &mut [u64], bytes: &mut [u8]) -> Cu
     };
     let ys = numbers::part(xs, at + 32 + metric, total - 32 - metric);
     items::fill_items(ys, d, table, bytes)
-}
-
-fn reference_number(b20: u8, b21: u8, b22: u8) -> u32
-    ensures { λ r. ⌜ r ≡ referenceNumber (record { byte20 = b20; byte21 = b21; byte22 = b22 }) ⌝ }
-{
-    (b20 as u32) + 256 * (b21 as u32) + 65536 * (b22 as u32)
 }
 
 // The eight numbers of the record at a place that has so many items.
@@ -160,29 +144,20 @@ pub fn fill_record(
     let at = c.place;
     let w = c.numbers;
     let total = numbers::u32_at(xs, at + 4) as usize;
-    let d = record_metric(
-        xs,
-        Cursor {
-            place: at,
-            numbers: w + 8,
-            elements: c.elements,
-            bytes: c.bytes,
-        },
-        table,
-        elements,
-        bytes,
-    );
-    let e = record_items(
-        xs,
-        Cursor {
-            place: at,
-            numbers: d.numbers,
-            elements: d.elements,
-            bytes: d.bytes,
-        },
-        table,
-        bytes,
-    );
+    let past = Cursor {
+        place: at,
+        numbers: w + 8,
+        elements: c.elements,
+        bytes: c.bytes,
+    };
+    let d = record_metric(xs, past, table, elements, bytes);
+    let behind = Cursor {
+        place: at,
+        numbers: d.numbers,
+        elements: d.elements,
+        bytes: d.bytes,
+    };
+    let e = record_items(xs, behind, table, bytes);
     put_header(xs, at, (e.numbers - d.numbers) / 4, table, w);
     Cursor {
         place: at + total,

@@ -3,6 +3,7 @@ pub mod Lists
 pub mod Walks
 pub mod Chains
 pub mod Readers
+pub mod Valued
 pub mod Numbers
 pub mod Texts
 pub mod Rows

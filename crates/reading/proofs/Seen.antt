@@ -4,28 +4,21 @@ use Rattle.layout.specs.Answers.Calls.{reading}
 use Rattle.layout.specs.Answers.Enums.{checkedOf, sizesOf}
 use Rattle.layout.specs.Reading.Sheets.{sheetWalk}
 use Rattle.layout.specs.Sheet.{Sheet}
-use Rattle.layout.specs.Walk.{Walk, ends, stops, meets, Answer, given, refused, answer, upTo, outcome}
+use Rattle.layout.specs.Walk.{ends, Answer, given, refused, answer, upTo, outcome}
 use Rattle.layout.specs.Years.{isSetting}
 use Rattle.layout.specs.declared.Checked.the-variants as Check
 use Rattle.layout.specs.declared.Checked.{Checked}
 use Rattle.layout.specs.declared.Refusal.{Refusal}
 use Rattle.layout.specs.declared.Sizes.{Sizes}
-use Rattle.laws.proofs.Base.Walks.{cond-back}
-use mathlib.Core.Bool.{Bool}
+use Rattle.laws.proofs.Base.Walks.{cond-back, given-ends}
 use mathlib.Core.List.{List}
-use mathlib.Core.Path.{_≡_, refl, sym, ap, _∙_}
+use mathlib.Core.Path.{_≡_, refl, sym, _∙_}
 use native.Mathlib.Omega.{arith}
 
 by-accepted : (a : Answer Sheet) (z : Sizes) → Check.Accepted z ≡ checkedOf a → (t : Sheet) × (a ≡ given t) × (z ≡ sizesOf t)
 unfolding checkedOf
 by-accepted (given t) z e = (t, refl, cc)
 by-accepted (refused n p y) z e = absurd (let q : _≡_ {A = ℕ} 0 1 = cc in omega arith)
-
--- what is given at some years is what the 2017 walk ends in
-given-ends : {A : Type 0} (al : ℕ → Bool) (w : Walk A) (a : A) → answer al w ≡ given a → outcome w ≡ ends a
-given-ends al (ends b) a e = cc
-given-ends al (stops n p) a e = absurd (let q : _≡_ {A = ℕ} 0 1 = cc in omega arith)
-given-ends al (meets p z w) a e = given-ends al w a (cond-back (al z) _ _ _ _ a e .1)
 
 -- an accepted sheet
 pub record Seen (y : ℕ) (s : List ℕ) (z : Sizes) : Type 0 where

@@ -3,27 +3,24 @@ use Prim.Native.Nat.{ℕ, _≤_, _<_}
 use Rattle.filling.proofs.Laid.{Laid, filled-laid}
 use Rattle.filling.proofs.SheetValues.{sheet-records}
 use Rattle.filling.specs.Sheets.{sheetRecords, Accepted, Filled}
-use Rattle.layout.specs.Answers.Calls.{Rooms, inRooms, andThen, reading, roomy, unfolded, lent}
+use Rattle.layout.specs.Answers.Calls.{inRooms, andThen, reading, roomy, unfolded, lent}
 use Rattle.layout.specs.Answers.Enums.{checkedOf, sizesOf, refusal}
-use Rattle.layout.specs.Reading.Sheets.{sheetWalk}
 use Rattle.layout.specs.Refusals.{ROOM}
 use Rattle.layout.specs.Sheet.{Sheet, Table}
-use Rattle.layout.specs.Walk.{Walk, ends, stops, meets, Answer, given, refused, answer, upTo, outcome}
+use Rattle.layout.specs.Walk.{Answer, given, refused, answer}
 use Rattle.layout.specs.Writing.Tables.{flatten}
-use Rattle.layout.specs.Years.{isSetting}
 use Rattle.layout.specs.declared.Checked.the-variants as Check
 use Rattle.layout.specs.declared.Checked.{Checked}
 use Rattle.layout.specs.declared.Refusal.{Refusal}
 use Rattle.layout.specs.declared.Sizes.{Sizes}
-use Rattle.laws.proofs.Base.Walks.{cond-back}
 use Rattle.reading.specs.Rooms.{rooms, theNumbers, theElements, theBytes}
 use Rattle.reading.proofs.Seen.{Seen, refused-is}
-use borrow.Author.Tests.{leb-true, leb-false}
+use borrow.Author.Tests.{le-leb, lt-leb}
 use lib.Dec.{leb}
 use lib.ListN.{length}
-use mathlib.Core.Bool.{Bool, true, false, cond}
+use mathlib.Core.Bool.{true, false}
 use mathlib.Core.List.{List}
-use mathlib.Core.Path.{_≡_, refl, sym, ap, _∙_}
+use mathlib.Core.Path.{_≡_, refl, sym, ap}
 use native.Mathlib.Omega.{arith}
 
 -- what `unfold` ensures, where a is the sheet's own answer: r answers, and t₁, e₁, b₁ are what the slices hold at the end
@@ -64,20 +61,6 @@ by-filled : (a : Answer Sheet) (t₀ e₀ b₀ t₁ e₁ b₁ : List ℕ) (t : S
 unfolding checkedOf
 by-filled a t₀ e₀ b₀ t₁ e₁ b₁ t z e q i k = rw (e, i) (ap Check.Accepted q, (k .numbers, (k .elements, k .bytes)))
 
-short : (a b : ℕ) → b < a → leb a b ≡ false
-short a b h = by (leb a b) refl
-  where
-    by : (t : Bool) → leb a b ≡ t → leb a b ≡ false
-    by true e = absurd (omega (arith, leb-true a b e))
-    by false e = e
-
-long : (a b : ℕ) → a ≤ b → leb a b ≡ true
-long a b h = by (leb a b) refl
-  where
-    by : (t : Bool) → leb a b ≡ t → leb a b ≡ true
-    by true e = e
-    by false e = absurd (omega (arith, leb-false a b e))
-
 module _ (y : ℕ) (s t₀ e₀ b₀ : List ℕ) (z : Sizes) (a : Seen y s z) where
   abbrev u : Table
   u = flatten (a .sheet .records)
@@ -95,19 +78,19 @@ module _ (y : ℕ) (s t₀ e₀ b₀ : List ℕ) (z : Sizes) (a : Seen y s z) wh
   bytes-is = ap (λ (x : Sizes). x .bytes) (sym (a .sizes))
 
   pub short-1 : length t₀ < z .numbers → Unfolded y s t₀ e₀ b₀ t₀ e₀ b₀ (Check.Refused (refusal ROOM 1 0))
-  short-1 h = no-room 1 (let n : leb (length (u .numbers)) (length t₀) ≡ false = short (length (u .numbers)) (length t₀) (omega (arith, numbers-is, h)) in rw n refl)
+  short-1 h = no-room 1 (let n : leb (length (u .numbers)) (length t₀) ≡ false = lt-leb (length (u .numbers)) (length t₀) (omega (arith, numbers-is, h)) in rw n refl)
 
   pub short-2 : z .numbers ≤ length t₀ → length e₀ < z .elements → Unfolded y s t₀ e₀ b₀ t₀ e₀ b₀ (Check.Refused (refusal ROOM 2 0))
   short-2 g h =
-      let m : leb (length (u .numbers)) (length t₀) ≡ true = long (length (u .numbers)) (length t₀) (omega (arith, numbers-is, g)) in
-      let n : leb (length (u .elements)) (length e₀) ≡ false = short (length (u .elements)) (length e₀) (omega (arith, elements-is, h)) in
+      let m : leb (length (u .numbers)) (length t₀) ≡ true = le-leb (length (u .numbers)) (length t₀) (omega (arith, numbers-is, g)) in
+      let n : leb (length (u .elements)) (length e₀) ≡ false = lt-leb (length (u .elements)) (length e₀) (omega (arith, elements-is, h)) in
       no-room 2 (rw (m, n) refl)
 
   pub short-3 : z .numbers ≤ length t₀ → z .elements ≤ length e₀ → length b₀ < z .bytes → Unfolded y s t₀ e₀ b₀ t₀ e₀ b₀ (Check.Refused (refusal ROOM 3 0))
   short-3 f g h =
-      let l : leb (length (u .numbers)) (length t₀) ≡ true = long (length (u .numbers)) (length t₀) (omega (arith, numbers-is, f)) in
-      let m : leb (length (u .elements)) (length e₀) ≡ true = long (length (u .elements)) (length e₀) (omega (arith, elements-is, g)) in
-      let n : leb (length (u .bytes)) (length b₀) ≡ false = short (length (u .bytes)) (length b₀) (omega (arith, bytes-is, h)) in
+      let l : leb (length (u .numbers)) (length t₀) ≡ true = le-leb (length (u .numbers)) (length t₀) (omega (arith, numbers-is, f)) in
+      let m : leb (length (u .elements)) (length e₀) ≡ true = le-leb (length (u .elements)) (length e₀) (omega (arith, elements-is, g)) in
+      let n : leb (length (u .bytes)) (length b₀) ≡ false = lt-leb (length (u .bytes)) (length b₀) (omega (arith, bytes-is, h)) in
       no-room 3 (rw (l, m, n) refl)
 
   module _ (f : z .numbers ≤ length t₀) (g : z .elements ≤ length e₀) (h : z .bytes ≤ length b₀) where
@@ -123,9 +106,9 @@ module _ (y : ℕ) (s t₀ e₀ b₀ : List ℕ) (z : Sizes) (a : Seen y s z) wh
 
     all-fit : inRooms (rooms t₀ e₀ b₀) u ≡ given u
     all-fit =
-        let l : leb (length (u .numbers)) (length t₀) ≡ true = long (length (u .numbers)) (length t₀) (omega (arith, numbers-is, f)) in
-        let m : leb (length (u .elements)) (length e₀) ≡ true = long (length (u .elements)) (length e₀) (omega (arith, elements-is, g)) in
-        let n : leb (length (u .bytes)) (length b₀) ≡ true = long (length (u .bytes)) (length b₀) (omega (arith, bytes-is, h)) in
+        let l : leb (length (u .numbers)) (length t₀) ≡ true = le-leb (length (u .numbers)) (length t₀) (omega (arith, numbers-is, f)) in
+        let m : leb (length (u .elements)) (length e₀) ≡ true = le-leb (length (u .elements)) (length e₀) (omega (arith, elements-is, g)) in
+        let n : leb (length (u .bytes)) (length b₀) ≡ true = le-leb (length (u .bytes)) (length b₀) (omega (arith, bytes-is, h)) in
         rw (l, m, n) refl
 
     pub filled-right : (t₁ e₁ b₁ : List ℕ) → Filled (flatten (sheetRecords s)) t₀ e₀ b₀ t₁ e₁ b₁ → Unfolded y s t₀ e₀ b₀ t₁ e₁ b₁ (Check.Accepted z)

@@ -8,14 +8,14 @@ ghost use Rattle.layout.specs.Answers.Enums.{foundOf};
 ghost use Rattle.layout.specs.Reading.Hops.{placeIn};
 ghost use Rattle.layout.specs.Reading.Records.{headerIn};
 ghost use Rattle.layout.specs.Reading.Sheets.{start, sheetWalk};
-ghost use Rattle.layout.specs.Shared.Mark.{firstCount};
-ghost use Rattle.layout.specs.Shared.Row.{referenceNumber};
 ghost use Rattle.layout.specs.Walk.{answer, upTo};
 ghost use Rattle.reading.specs.Found.{AcceptedAt, Hops, recordBy};
 use crate::sheets::check;
 use checking::records;
 use checking::tally::Counted;
 use fields::numbers;
+use fields::records::first_count;
+use fields::records::reference_number;
 use layout::Checked;
 use layout::Found;
 use layout::RecordAt;
@@ -35,22 +35,6 @@ fn place_of(s: &[u8], number: u32) -> usize
         left -= 1;
     }
     at
-}
-
-fn reference_number(b20: u8, b21: u8, b22: u8) -> u32
-    ensures { λ r. ⌜ r ≡ referenceNumber (record { byte20 = b20; byte21 = b21; byte22 = b22 }) ⌝ }
-{
-    (b20 as u32) + 256 * (b21 as u32) + 65536 * (b22 as u32)
-}
-
-// The first part's count: under the mark 65535 it is the word.
-fn first_points(points: u16, word: u32) -> u32
-    ensures { λ r. ⌜ r ≡ firstCount points word ⌝ }
-{
-    if points == 65535 {
-        return word;
-    }
-    points as u32
 }
 
 // How many items a record has, by its count of numbers: eight, two for each part, four for each item.
@@ -85,7 +69,7 @@ fn record_by(xs: &[u8], place: usize, count: usize) -> RecordAt
         word,
         parts: 1 + (subobjects as u32),
         items: items_of(count, subobjects),
-        points: first_points(numbers::u16_at(xs, 30), word),
+        points: first_count(numbers::u16_at(xs, 30), word),
     }
 }
 

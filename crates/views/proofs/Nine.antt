@@ -7,8 +7,8 @@ use Rattle.views.specs.Settings.{madeOf}
 use Rattle.views.specs.declared.setting.Made.the-variants.{At, Refused}
 use Rattle.views.specs.declared.setting.Made.{Made}
 use Rattle.views.specs.declared.setting.Setting.{Setting}
-use lib.Dec.{eqb}
-use mathlib.Core.Bool.{Bool, true, false, cond, _||_, or-assoc, or-false}
+use borrow.Author.Tests.{ne-eqb}
+use mathlib.Core.Bool.{Bool, true, false, cond}
 use mathlib.Core.Path.{_≡_, refl, sym, _∙_}
 use native.Mathlib.Omega.{arith}
 
@@ -27,18 +27,14 @@ Right y r = (r ≡ madeOf (settingOf y)) × ((s : Setting) → r ≡ At s → is
 right : (y : ℕ) (r : Made) → r ≡ madeOf (settingOf y) → Right y r
 right y r e = (e, λ s h. made-nine y s (sym e ∙ h) .1)
 
--- the tests as the code has them, bracketed to the left
-abbrev tests : ℕ → Bool
-tests y =
-    eqb y 1999 || eqb y 2004 || eqb y 2006 || eqb y 2008 || eqb y 2012 || eqb y 2014 || eqb y 2015 || eqb y 2016 || eqb y 2017
-
-same-tests : (y : ℕ) → isSetting y ≡ tests y
-same-tests y = simp (or-assoc, or-false)
-
-pub made : (y : ℕ) → tests y ≡ true → Right y (At (record { year = y }))
+-- each of the nine years is answered by its own setting
+pub made : (year y : ℕ) → isSetting year ≡ true → y ≡ year → Right y (At (record { year = year }))
 unfolding madeOf
-made y h = right y _ (rw (same-tests y ∙ h))
+made year y s e = right y _ (rw (e, s) refl)
 
-pub not-made : (y : ℕ) → tests y ≡ false → Right y (Refused (record { number = 16; place = 0; year = 0 }))
+-- and no other year
+pub not-made : (y : ℕ) → (y ≡ 1999 → ⊥) → (y ≡ 2004 → ⊥) → (y ≡ 2006 → ⊥) → (y ≡ 2008 → ⊥) → (y ≡ 2012 → ⊥) → (y ≡ 2014 → ⊥)
+    → (y ≡ 2015 → ⊥) → (y ≡ 2016 → ⊥) → (y ≡ 2017 → ⊥) → Right y (Refused (record { number = 16; place = 0; year = 0 }))
 unfolding madeOf
-not-made y h = right y _ (rw (same-tests y ∙ h))
+not-made y a b c d e f g h i =
+    right y _ (rw (ne-eqb y 1999 a, ne-eqb y 2004 b, ne-eqb y 2006 c, ne-eqb y 2008 d, ne-eqb y 2012 e, ne-eqb y 2014 f, ne-eqb y 2015 g, ne-eqb y 2016 h, ne-eqb y 2017 i) refl)

@@ -35,28 +35,27 @@ impl Setting {
 
     pub const Y2017: Setting = Setting { year: 2017 };
 
-    // For a year that comes from outside; the constants need no answer to be handled.
+    // For a year that comes from outside; the constants need no answer to be handled. Each year is answered by its constant, so that
+    // this proof holds the constants to the years of their names.
     pub fn new(year: u32) -> Made
         ensures means { λ r. ⌜ r ≡ madeOf (settingOf year) ⌝ }
         ensures nine { λ r. ⌜ ((s : Setting) → r ≡ Made.At s → isSetting (s .year) ≡ true) ⌝ }
     {
-        if (year == Setting::Y1999.year)
-            | (year == Setting::Y2004.year)
-            | (year == Setting::Y2006.year)
-            | (year == Setting::Y2008.year)
-            | (year == Setting::Y2012.year)
-            | (year == Setting::Y2014.year)
-            | (year == Setting::Y2015.year)
-            | (year == Setting::Y2016.year)
-            | (year == Setting::Y2017.year)
-        {
-            Made::At(Setting { year })
-        } else {
-            Made::Refused(Refusal {
+        match year {
+            1999 => Made::At(Setting::Y1999),
+            2004 => Made::At(Setting::Y2004),
+            2006 => Made::At(Setting::Y2006),
+            2008 => Made::At(Setting::Y2008),
+            2012 => Made::At(Setting::Y2012),
+            2014 => Made::At(Setting::Y2014),
+            2015 => Made::At(Setting::Y2015),
+            2016 => Made::At(Setting::Y2016),
+            2017 => Made::At(Setting::Y2017),
+            _ => Made::Refused(Refusal {
                 number: 16,
                 place: 0,
                 year: 0,
-            })
+            }),
         }
     }
 

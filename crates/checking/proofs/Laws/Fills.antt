@@ -1,59 +1,30 @@
 -- The loop over pieces up to the end of their bytes, without fuel: what a turn does, and when it is done.
-use mathlib.Core.Bool.{Bool}
 use mathlib.Core.List.{List, [], _∷_}
 use mathlib.Core.Path.{_≡_, refl, sym, ap, _∙_}
-use Prim.Native.Nat.{ℕ, zero, suc, _+_, _-_, _≤_, _<_}
+use Prim.Native.Nat.{ℕ, _+_, _-_, _≤_, _<_}
 use lib.ListN.{length, take, drop, length-drop, drop-of-length-le}
 use lib.Seq.{drop-drop}
-use native.Mathlib.Nat.{zero-add, add-assoc, add-zero}
+use native.Mathlib.Nat.{add-assoc, add-zero}
 use native.Mathlib.Omega.{arith}
-use Rattle.checking.proofs.Laws.Loop.{rest}
 use Rattle.checking.proofs.Laws.Shown.{next, plus, plus-plus, plus-none, shown-plus, tally-join}
 use Rattle.checking.specs.Tally.{none, add, tally, tallyOf, countedOf, shown}
 use Rattle.checking.specs.declared.tally.Counted.{Counted}
 use Rattle.checking.specs.declared.tally.Counted.the-variants.{Fine, Refused}
 use Rattle.checking.specs.declared.tally.Tally.{Tally}
+use Rattle.fields.proofs.Laws.{rest-is}
 use Rattle.layout.specs.Answers.Calls.{andThen}
 use Rattle.layout.specs.Sheet.{Table}
 use Rattle.layout.specs.Walk.{Walk, Answer, given, refused, answer, upTo, ends, _>>=_, Piece, Reader, filling, fill}
 use Rattle.layout.specs.Writing.Tables.{join, joined}
 use Rattle.layout.specs.declared.Refusal.{Refusal}
+use Rattle.laws.proofs.Base.Readers.{Sized, filling-fuel}
 use Rattle.laws.proofs.Base.Walks.{answer-bind}
-
--- what is known of a reader: each piece takes a byte at least, and no more than there are
-pub record Sized {A : Type 0} (r : Reader A) (y : ℕ) : Type 0 where
-  pub sized : (p : ℕ) (xs : List ℕ) (v : Piece A) → answer (upTo y) (r p xs) ≡ given v → (0 < v .size) × (v .size ≤ length xs)
 
 -- the pieces of all n bytes
 abbrev pub tallies : {A : Type 0} → (A → Table) → ℕ → List A → Tally
 tallies f n l = tallyOf n (joined f l)
 
-module _ {A : Type 0} (f : A → Table) (r : Reader A) (y : ℕ) (s : Sized r y) where
-  fuel : (m n p : ℕ) (xs : List ℕ) → length xs ≤ m → length xs ≤ n → answer (upTo y) (filling r m p xs) ≡ answer (upTo y) (filling r n p xs)
-  fuel zero zero p xs h i = refl
-  fuel zero (suc n) p [] h i = refl
-  fuel zero (suc n) p (x ∷ xs) h i = absurd (omega arith)
-  fuel (suc m) zero p [] h i = refl
-  fuel (suc m) zero p (x ∷ xs) h i = absurd (omega arith)
-  fuel (suc m) (suc n) p [] h i = refl
-  fuel (suc m) (suc n) p (x ∷ xs) h i =
-      answer-bind (upTo y) (r p (x ∷ xs)) (one m)
-      ∙ go (λ q ys. fuel m n q ys) (answer (upTo y) (r p (x ∷ xs))) refl
-      ∙ sym (answer-bind (upTo y) (r p (x ∷ xs)) (one n))
-    where
-      one : ℕ → Piece A → Walk (List A)
-      one k a = filling r k (p + a .size) (drop (a .size) (x ∷ xs)) >>= λ more. ends (a .value ∷ more)
-
-      go : ((q : ℕ) (ys : List ℕ) → length ys ≤ m → length ys ≤ n → answer (upTo y) (filling r m q ys) ≡ answer (upTo y) (filling r n q ys))
-          → (v : Answer (Piece A)) → answer (upTo y) (r p (x ∷ xs)) ≡ v → andThen v (λ a. answer (upTo y) (one m a)) ≡ andThen v (λ a. answer (upTo y) (one n a))
-      go same (given a) e =
-          let z = s .sized p (x ∷ xs) a e in
-          let l = length-drop (a .size) (x ∷ xs) in
-          answer-bind (upTo y) (filling r m (p + a .size) (drop (a .size) (x ∷ xs))) (λ more. ends (a .value ∷ more))
-          ∙ ap (λ t. andThen t (λ more. given (a .value ∷ more))) (same (p + a .size) (drop (a .size) (x ∷ xs)) (omega (arith, z, l)) (omega (arith, z, l)))
-          ∙ sym (answer-bind (upTo y) (filling r n (p + a .size) (drop (a .size) (x ∷ xs))) (λ more. ends (a .value ∷ more)))
-      go same (refused n q z) e = refl
-
+module _ {A : Type 0} (f : A → Table) (r : Reader A) (y : ℕ) (s : Sized (upTo y) r) where
   abbrev afterFirst : List ℕ → ℕ → Tally → Counted
   afterFirst xs p z = plus z (shown (tallies f (length xs - z .used)) y (fill r (p + z .used) (drop (z .used) xs)))
 
@@ -75,7 +46,7 @@ module _ {A : Type 0} (f : A → Table) (r : Reader A) (y : ℕ) (s : Sized r y)
           let D : List ℕ = drop (a .size) (x ∷ xs) in
           shown-plus y (tallies f (length (x ∷ xs) - a .size)) (tallies f (length (x ∷ xs))) (filling r (length xs) (p + a .size) D) (λ more. a .value ∷ more) (tally f a)
           (λ more. ap (λ k. tallyOf k (join (f (a .value)) (joined f more))) n ∙ tally-join (a .size) (length (x ∷ xs) - a .size) (f (a .value)) (joined f more))
-          ∙ ap (λ t. plus (tally f a) (countedOf (tallies f (length (x ∷ xs) - a .size)) t)) (fuel (length xs) (length D) (p + a .size) D (omega (arith, z, l)) (omega arith))
+          ∙ ap (λ t. plus (tally f a) (countedOf (tallies f (length (x ∷ xs) - a .size)) t)) (filling-fuel (upTo y) r s (length xs) (length D) (p + a .size) D (omega (arith, z, l)) (omega arith))
       go (refused n q z) e = refl
 
 module _ {A : Type 0} (f : A → Table) (r : Reader A) (p : ℕ) (xs : List ℕ) (y : ℕ) where
@@ -96,7 +67,7 @@ module _ {A : Type 0} (f : A → Table) (r : Reader A) (p : ℕ) (xs : List ℕ)
       let e : shown (tallies f (length xs)) y (fill r p xs) ≡ plus acc (Fine none) = g .eq ∙ rw (d, n) refl in
       sym (e ∙ simp add-zero)
 
-  module _ (s : Sized r y) (acc : Tally) (g : Going acc) (h : acc .used < length xs) (k : Counted)
+  module _ (s : Sized (upTo y) r) (acc : Tally) (g : Going acc) (h : acc .used < length xs) (k : Counted)
       (means : k ≡ shown (tally f) y (r (p + acc .used) (take (length xs - acc .used) (drop (acc .used) xs)))) where
     abbrev left : List ℕ
     left = drop (acc .used) xs
@@ -105,7 +76,7 @@ module _ {A : Type 0} (f : A → Table) (r : Reader A) (p : ℕ) (xs : List ℕ)
     after ys q z = plus z (shown (tallies f (length ys - z .used)) y (fill r (q + z .used) (drop (z .used) ys)))
 
     here : k ≡ shown (tally f) y (r (p + acc .used) left)
-    here = rw rest at means
+    here = rw rest-is at means
 
     more : (z : Tally) → plus acc (plus z (shown (tallies f (length left - z .used)) y (fill r (p + acc .used + z .used) (drop (z .used) left))))
         ≡ plus (add acc z) (shown (tallies f (length xs - (acc .used + z .used))) y (fill r (p + (acc .used + z .used)) (drop (acc .used + z .used) xs)))

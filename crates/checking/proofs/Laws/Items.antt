@@ -1,16 +1,15 @@
 -- The ways out of an item, over plain variables.
-use mathlib.Core.Bool.{Bool, true, false, cond, not, _||_, _&&_}
+use mathlib.Core.Bool.{Bool, true, false, not, _||_, _&&_}
 use mathlib.Core.List.{List, [], _∷_}
 use mathlib.Core.Path.{_≡_, refl, sym, ap, _∙_}
-use Prim.Native.Nat.{ℕ, zero, suc, _+_, _-_, _*_, _%_, _≤_, _<_}
-use borrow.Author.Tests.{le-leb, lt-leb, eq-eqb, ne-eqb, leb-true}
+use Prim.Native.Nat.{ℕ, _+_, _-_, _%_, _≤_, _<_}
+use borrow.Author.Tests.{le-leb, lt-leb, leb-true}
 use lib.Dec.{eqb, leb}
 use lib.ListN.{length, take, drop, length-drop}
 use lib.Seq.{drop-drop, length-take-le}
-use native.Mathlib.Nat.{add-zero, zero-add, suc-add}
+use native.Mathlib.Nat.{add-zero}
 use native.Mathlib.Omega.{arith}
-use Rattle.checking.proofs.Laws.Fills.{Sized}
-use Rattle.checking.proofs.Laws.Steps.{checks-append, step-on, step-stop, step-holds}
+use Rattle.checking.proofs.Laws.Steps.{step-on, step-stop, step-holds}
 use Rattle.checking.specs.Items.{shapeOf, Shaped, shapeChecks, valueChecks, valueWalk}
 use Rattle.checking.specs.Tally.{tally, shown}
 use Rattle.checking.specs.declared.tally.Counted.{Counted}
@@ -20,15 +19,16 @@ use Rattle.fields.specs.Steps.{Next}
 use Rattle.fields.specs.declared.steps.Step.{Step}
 use Rattle.fields.specs.declared.steps.Step.the-variants as Stp
 use Rattle.layout.specs.Answers.Enums.{refusal}
-use Rattle.layout.specs.Bytes.{number, numberIn, zeros}
+use Rattle.layout.specs.Bytes.{number, zeros}
 use Rattle.layout.specs.Reading.Items.{itemChecks, itemWalk, kindIn, valueAt, valueSize, itemSize, itemIn}
 use Rattle.layout.specs.Shared.Types.{Kind, narrow, wide, long, integer, double, unknown, isLong, goodLength, valueLength, closing, isClosed}
 use Rattle.layout.specs.Refusals.{LENGTH}
 use Rattle.layout.specs.Walk.{upTo, must, checks, _>>_, ends, piece}
 use Rattle.layout.specs.Writing.Tables.{flattenItem}
 use Rattle.layout.specs.declared.Refusal.{Refusal}
-use Rattle.laws.proofs.Base.Lists.{both-true}
-use Rattle.laws.proofs.Base.Walks.{given-inj, checks-case}
+use Rattle.laws.proofs.Base.Lists.{both-true, drop-take}
+use Rattle.laws.proofs.Base.Readers.{Sized}
+use Rattle.laws.proofs.Base.Walks.{given-inj, checks-case, checks-append}
 
 never : false ≡ true → ⊥
 never e = let z : _≡_ {A = ℕ} 0 1 = cc in omega arith
@@ -75,12 +75,6 @@ module _ (xs : List ℕ) (k : Shape) (s : Shaped xs k) where
       ap (λ (z : Shape). z .size) (s .is) ∙ sym (size-short (kindIn xs) (number 1 (drop 3 xs)) (number 4 (drop 4 xs)) f)
 
 -- the closing zeros, as they stand in the item
-drop-take : (a b : ℕ) (l : List ℕ) → drop a (take (a + b) l) ≡ take b (drop a l)
-drop-take zero b l = simp zero-add
-drop-take (suc a) zero [] = rw (suc-add a 0) refl
-drop-take (suc a) (suc b) [] = rw (suc-add a (suc b)) refl
-drop-take (suc a) b (x ∷ l) = rw (suc-add a b) (drop-take a b l)
-
 closed-is : (xs : List ℕ) (at size c used : ℕ) → used ≡ at + size → c ≤ size → used ≤ length xs
     → zeros (drop (length (take size (drop at xs)) - c) (take size (drop at xs))) ≡ zeros (take c (drop (used - c) xs))
 closed-is xs at size c used e h l =
@@ -180,7 +174,7 @@ module _ (y p : ℕ) (xs : List ℕ) where
       item-starts f = leb-true (k .at) (length xs) (step-holds y p (shapeChecks k (length xs)) r n f .1 .1 .0)
 
 -- an item takes four bytes at least, and no more than there are
-pub item-sized : (y : ℕ) → Sized itemWalk y
+pub item-sized : (y : ℕ) → Sized (upTo y) itemWalk
 unfolding itemWalk itemChecks
 item-sized y =
     record {

@@ -1,24 +1,21 @@
 -- The loop over pieces one after another, once for all such loops: the invariant `Same`, where it starts, a turn of it, its two ways out.
-use mathlib.Core.List.{List, [], _∷_}
-use mathlib.Core.Path.{_≡_, refl, sym, ap, _∙_}
+use mathlib.Core.List.{List}
+use mathlib.Core.Path.{_≡_, refl, sym, _∙_}
 use Prim.Native.Nat.{ℕ, zero, suc, _+_, _-_, _^_, _≤_, _<_}
 use lib.ListN.{length, take, drop, length-drop}
-use lib.Seq.{drop-drop, take-all}
-use native.Mathlib.Nat.{zero-add, add-assoc, add-zero}
+use lib.Seq.{drop-drop}
+use native.Mathlib.Nat.{add-assoc, add-zero}
 use native.Mathlib.Omega.{arith}
 use Rattle.checking.proofs.Laws.Shown.{next, plus, plus-plus, plus-none, times-shown}
 use Rattle.checking.specs.Tally.{none, add, tally, shown, Small, Within, WithinT}
 use Rattle.checking.specs.declared.tally.Counted.{Counted}
 use Rattle.checking.specs.declared.tally.Counted.the-variants.{Fine, Refused}
 use Rattle.checking.specs.declared.tally.Tally.{Tally}
+use Rattle.fields.proofs.Laws.{rest-is}
 use Rattle.layout.specs.Sheet.{Table}
-use Rattle.layout.specs.Walk.{Walk, Reader, times}
+use Rattle.layout.specs.Walk.{Reader, times}
 use Rattle.layout.specs.Writing.Tables.{joined}
 use Rattle.layout.specs.declared.Refusal.{Refusal}
-
--- an open-ended part of a slice is what is left of it
-pub rest : (k : ℕ) (xs : List ℕ) → take (length xs - k) (drop k xs) ≡ drop k xs
-rest k xs = take-all (length xs - k) (drop k xs) (omega (arith, length-drop k xs))
 
 pub within-fine : (n e : ℕ) (r : Counted) (t : Tally) → r ≡ Fine t → Within n e r → WithinT n e t
 within-fine n e r t g w = rw g at w
@@ -26,7 +23,7 @@ within-fine n e r t g w = rw g at w
 -- what a function says of the rest of a slice
 pub rest-within : (k e : ℕ) (xs : List ℕ) (r : Counted) → Within (length (take (length xs - k) (drop k xs))) e r
     → (z : Tally) → r ≡ Fine z → WithinT (length xs - k) e z
-rest-within k e xs r w z g = let s : Within (length xs - k) e r = rw (rest, length-drop) at w in within-fine (length xs - k) e r z g s
+rest-within k e xs r w z g = let s : Within (length xs - k) e r = rw (rest-is, length-drop) at w in within-fine (length xs - k) e r z g s
 
 -- the counts stay within the slice: what the step's function says of what is left, for the sum and for the next turn
 module _ (xs : List ℕ) (acc : Tally) (within : WithinT (length xs) 0 acc) (r : Counted)
@@ -84,7 +81,7 @@ module _ {A : Type 0} (f : A → Table) (r : Reader A) (n p : ℕ) (xs : List �
   module _ (left : ℕ) (acc : Tally) (g : Same left acc) (h : 0 < left) (k : Counted)
       (means : k ≡ shown (tally f) y (r (p + acc .used) (take (length xs - acc .used) (drop (acc .used) xs)))) where
     turn : shown (tally (joined f)) y (times n r p xs) ≡ next k (λ z. Rest f r p xs y (left - 1) (add acc z))
-    turn = g .eq ∙ rest-turn f r p xs y left acc k h (rw rest at means)
+    turn = g .eq ∙ rest-turn f r p xs y left acc k h (rw rest-is at means)
 
     pub same-stop : (q : Refusal) → k ≡ Refused q → Refused q ≡ shown (tally (joined f)) y (times n r p xs)
     same-stop q e = sym (rw e at turn)

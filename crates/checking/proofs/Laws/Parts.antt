@@ -3,16 +3,16 @@ use mathlib.Core.Bool.{Bool, true, false, cond, _||_}
 use mathlib.Core.List.{List, [], _∷_}
 use mathlib.Core.Path.{_≡_, refl, sym, ap, _∙_}
 use Prim.Native.Nat.{ℕ, _+_, _-_, _*_, _^_, _≤_, _<_}
-use borrow.Author.Tests.{le-leb, lt-leb, eq-eqb, ne-eqb}
+use borrow.Author.Tests.{le-leb, lt-leb}
 use lib.Dec.{eqb}
-use lib.ListN.{length, take, drop, length-drop}
+use lib.ListN.{length, take, drop}
 use native.Mathlib.Nat.{add-zero, mul-le-mul-left}
 use native.Mathlib.Omega.{arith}
-use Rattle.checking.proofs.Laws.Loop.{rest}
 use Rattle.checking.proofs.Laws.Shown.{next, shown-bind}
 use Rattle.checking.specs.Tally.{tally, textTable, shown}
 use Rattle.checking.specs.declared.tally.Counted.{Counted}
 use Rattle.checking.specs.declared.tally.Counted.the-variants.{Fine, Refused}
+use Rattle.fields.proofs.Laws.{rest-is}
 use Rattle.layout.specs.Answers.Enums.{refusal}
 use Rattle.layout.specs.Bytes.{number, numbers, repeat}
 use Rattle.layout.specs.Reading.Parts.{textWalk, partWalk, subobjectWalk}
@@ -20,15 +20,11 @@ use Rattle.layout.specs.Shared.Reference.{elementSize, floating, threeDimension
 use Rattle.layout.specs.Shared.Widths.{planar, height, widths, pointSize, pointBytes}
 use Rattle.layout.specs.Sheet.{Reference}
 use Rattle.layout.specs.Writing.Tables.{flattenPart}
-use Rattle.laws.proofs.Base.Numbers.{length-repeat}
+use Rattle.laws.proofs.Base.Numbers.{length-numbers, length-repeat}
 
 -- a count of points times what a point has
 pub product-fits : (a b : ℕ) → a < 2 ^ 32 → b ≤ 24 → a * b < 2 ^ 64
 product-fits a b h l = omega (arith, mul-le-mul-left a l)
-
-length-numbers : (ws xs : List ℕ) → length (numbers ws xs) ≡ length ws
-length-numbers [] xs = refl
-length-numbers (w ∷ ws) xs = rw (length-numbers ws (drop w xs))
 
 length-widths : (a b : ℕ) (three : Bool) (c : ℕ) → length (a ∷ b ∷ cond three (c ∷ []) []) ≡ cond three 3 2
 length-widths a b true c = refl
@@ -67,7 +63,7 @@ module _ (y p count size : ℕ) (xs : List ℕ) (r : Reference) (s : size ≡ co
       ≡ shown (tally flattenPart) y (partWalk r count p xs)
   unfolding partWalk flattenPart
   part-then l elements e k g =
-      simp (← s, le-leb size (length xs) l, g, rest)
+      simp (← s, le-leb size (length xs) l, g, rest-is)
       (sym (shown-bind y (tally textTable) (tally flattenPart) (textWalk (textInMetric r) (p + size) (drop size xs)) _ _
       (λ a. rw (elements-are r count xs, e) refl)))
 
@@ -82,11 +78,11 @@ module _ (y p : ℕ) (xs : List ℕ) (r : Reference) (marked : Bool) where
     unfolding subobjectWalk
     subobject-count h = simp (le-leb 4 (length xs) l, ← e, h, add-zero)
 
-    pub subobject-then : (marked || eqb n1 0) ≡ true
-        → (k : Counted) → k ≡ shown (tally flattenPart) y (partWalk r (n2 + 65536 * n1) (p + 4) (take (length xs - 4) (drop 4 xs)))
+    pub subobject-then : (marked || eqb n1 0) ≡ true → (count : ℕ) → count ≡ n2 + 65536 * n1
+        → (k : Counted) → k ≡ shown (tally flattenPart) y (partWalk r count (p + 4) (take (length xs - 4) (drop 4 xs)))
         → next k (λ t. Fine (record { used = 4 + t .used; numbers = t .numbers; elements = t .elements; bytes = t .bytes }))
         ≡ shown (tally flattenPart) y (subobjectWalk r marked p xs)
     unfolding subobjectWalk
-    subobject-then h k g =
-        simp (le-leb 4 (length xs) l, ← e, ← f, h, g, rest)
+    subobject-then h count q k g =
+        simp (le-leb 4 (length xs) l, ← e, ← f, h, g, q, rest-is)
         (sym (shown-bind y (tally flattenPart) (tally flattenPart) (partWalk r (n2 + 65536 * n1) (p + 4) (drop 4 xs)) _ _ (λ a. refl)))

@@ -1,16 +1,16 @@
 -- The ways out of a record, over plain variables.
-use mathlib.Core.Bool.{Bool, true, false, cond, not, _||_}
+use mathlib.Core.Bool.{Bool, true, false, cond}
 use mathlib.Core.List.{List, [], _∷_, _++_}
 use mathlib.Core.Path.{_≡_, refl, sym, ap, _∙_, subst}
 use Prim.Native.Nat.{ℕ, _+_, _-_, _≤_, _<_}
 use borrow.Author.Tests.{le-leb, lt-leb, lt-ltb, leb-true}
-use lib.Dec.{eqb, leb, ltb}
+use lib.Dec.{ltb}
 use lib.ListN.{length, take, drop, length-append, length-drop}
 use lib.Seq.{drop-drop, length-take-le}
-use native.Mathlib.Nat.{add-zero, add-assoc}
+use native.Mathlib.Nat.{add-zero}
 use native.Mathlib.Omega.{arith}
 use Rattle.checking.proofs.Laws.Shown.{next, plus, shown-bind, shown-plus}
-use Rattle.checking.proofs.Laws.Steps.{checks-append, step-on, step-stop, step-holds}
+use Rattle.checking.proofs.Laws.Steps.{step-on, step-stop, step-holds}
 use Rattle.checking.specs.Records.{shortOf, referenceOf, lengthRules, countRules, headerRules, Passed, restWalk, semanticsOf}
 use Rattle.checking.specs.Tally.{add, tally, tallyOf, metricTable, shown}
 use Rattle.checking.specs.declared.headers.Header.{Header}
@@ -27,14 +27,14 @@ use Rattle.layout.specs.Reading.Items.{itemWalk}
 use Rattle.layout.specs.Reading.Parts.{metricWalk}
 use Rattle.layout.specs.Reading.Records as Reading
 use Rattle.layout.specs.Reading.Records.{headerIn, lengthChecks, countChecks, headerWalk, bodyWalk, metricIn, semanticsIn, recordWith, recordWalk}
-use Rattle.layout.specs.Refusals.{LENGTH, SHORT}
+use Rattle.layout.specs.Refusals.{LENGTH}
 use Rattle.layout.specs.Shared.Mark.{isMark, firstCount}
 use Rattle.layout.specs.Shared.Reference.{referenceChecks, semantics}
 use Rattle.layout.specs.Sheet.{Item, Part, Record, Table}
-use Rattle.layout.specs.Walk.{Walk, ends, stops, must, checks, _>>=_, _>>_, Pair, Piece, piece, fill}
+use Rattle.layout.specs.Walk.{Walk, ends, stops, checks, _>>=_, _>>_, Pair, Piece, piece, fill}
 use Rattle.layout.specs.Writing.Tables.{joined, flattenHeader, flattenPart, flattenItem, flattenRecord}
 use Rattle.layout.specs.declared.Refusal.{Refusal}
-use Rattle.laws.proofs.Base.Walks.{bind-assoc}
+use Rattle.laws.proofs.Base.Walks.{bind-assoc, checks-append}
 
 -- the semantics
 

@@ -1,43 +1,40 @@
 -- The ways out of a sheet, over plain variables.
-use mathlib.Core.Bool.{Bool, true, false, cond}
+use mathlib.Core.Bool.{true, false}
 use mathlib.Core.List.{List, [], _∷_, _++_}
-use mathlib.Core.Path.{_≡_, refl, sym, ap, _∙_, subst}
-use Prim.Native.Nat.{ℕ, zero, suc, _+_, _-_, _^_, _≤_, _<_}
+use mathlib.Core.Path.{_≡_, refl, sym, ap, _∙_}
+use Prim.Native.Nat.{ℕ, suc, _+_, _-_, _^_, _≤_, _<_}
 use borrow.Author.Tests.{le-leb, lt-leb}
 use lib.Dec.{leb}
 use lib.ListN.{length, take, drop, getD, length-drop}
-use native.Mathlib.Nat.{add-zero, zero-add}
+use native.Mathlib.Nat.{add-zero}
 use native.Mathlib.Omega.{arith}
-use Rattle.checking.proofs.Laws.Loop.{rest}
-use Rattle.checking.proofs.Laws.Steps.{checks-append}
 use Rattle.checking.specs.Sheets.{headRules, Headed}
 use Rattle.checking.specs.Tally.{tally, tallyOf, countedOf, shown}
 use Rattle.checking.specs.declared.tally.Counted.{Counted}
 use Rattle.checking.specs.declared.tally.Counted.the-variants.{Fine, Refused}
 use Rattle.checking.specs.declared.tally.Tally.{Tally}
+use Rattle.fields.proofs.Laws.{rest-is}
 use Rattle.fields.specs.Steps.{stepIn, stepOf, afterOf, Next}
 use Rattle.fields.specs.declared.steps.Step.{Step}
 use Rattle.fields.specs.declared.steps.Step.the-variants as Stp
-use Rattle.layout.specs.Answers.Calls.{andThen}
 use Rattle.layout.specs.Answers.Enums.{refusal, checkedOf}
 use Rattle.layout.specs.Bytes.{Bytes, number, bytes, bytesIn}
 use Rattle.layout.specs.Fields.{limit}
 use Rattle.layout.specs.Fields.Descriptor
 use Rattle.layout.specs.Fields.Passport
 use Rattle.layout.specs.Layout.Encode.{encodeHead, encodeWith, sheetSum, encode}
-use Rattle.layout.specs.Layout.Fine.{Fine as FineSheet}
 use Rattle.layout.specs.Reading.Records.{recordWalk}
 use Rattle.layout.specs.Reading.Sheets.{sizeChecks, passportChecks, descriptorChecks, reservedChecks, headIn, sheetWalk}
 use Rattle.layout.specs.Refusals.{LEFT-OVER}
 use Rattle.layout.specs.Shared.Carried.{restChecks, carriedChecks}
 use Rattle.layout.specs.Sheet.{Record, Sheet}
-use Rattle.layout.specs.Walk.{Walk, ends, Answer, given, refused, answer, upTo, must, checks, _>>=_, _>>_, Piece, Reader, times, whole}
+use Rattle.layout.specs.Walk.{Walk, ends, Answer, given, refused, answer, upTo, checks, _>>=_, _>>_, Piece, times, whole}
 use Rattle.layout.specs.Writing.Tables.{joined, flattenRecord, flatten}
-use Rattle.layout.specs.declared.Checked.{Checked}
 use Rattle.layout.specs.declared.Checked.the-variants as Check
 use Rattle.layout.specs.declared.Refusal.{Refusal}
 use Rattle.laws.proofs.Base.Numbers.{number-bytes}
-use Rattle.laws.proofs.Base.Walks.{given-inj, answer-bind, bind-on, bind-case}
+use Rattle.laws.proofs.Base.Readers.{times-length}
+use Rattle.laws.proofs.Base.Walks.{bind-on, bind-refused, checks-append}
 use Rattle.laws.proofs.Encoding.Sums.{sum-fits}
 use Rattle.laws.proofs.Reading.Sheets.{sheet-sound}
 
@@ -62,20 +59,10 @@ step-refused : (v : Answer (Unit {0})) (q : Refusal) → stepIn v ≡ Stp.Refuse
 step-refused (given a) q e = let z : _≡_ {A = ℕ} 0 1 = cc in absurd (omega arith)
 step-refused (refused n p y) q e = let i : refusal n p y ≡ q = cc in rw (← i) refl
 
-bind-refused : {A B : Type 0} (al : ℕ → Bool) (w : Walk A) (f : A → Walk B) (q : Refusal) → answer al w ≡ refusedBy q → answer al (w >>= f) ≡ refusedBy q
-bind-refused al w f q e = answer-bind al w f ∙ ap (λ v. andThen v (λ a. answer al (f a))) e
-
 -- all bytes, from what the code knows of a slice
 pub all-bytes : (s : List ℕ) → ((i : ℕ) → getD s i 0 < 256) → Bytes s
 all-bytes [] g = tt
 all-bytes (x ∷ s) g = (g 0, all-bytes s (λ i. g (suc i)))
-
-times-length : {A : Type 0} (al : ℕ → Bool) (r : Reader A) (n p : ℕ) (xs : List ℕ) (v : Piece (List A)) → answer al (times n r p xs) ≡ given v → length (v .value) ≡ n
-times-length al r zero p xs v e = rw (← (given-inj e)) refl
-times-length al r (suc n) p xs v e =
-    bind-case al (r p xs) _ v e λ a h i.
-    bind-case al (times n r (p + a .size) (drop (a .size) xs)) _ v i λ u j g.
-    rw (← (given-inj g)) (ap suc (times-length al r n (p + a .size) (drop (a .size) xs) u j))
 
 -- the sum that an accepted sheet states is its own
 sum-is : (y : ℕ) (s : List ℕ) → Bytes s → (t : Sheet) → answer (upTo y) (sheetWalk s) ≡ given t → number 4 (drop 12 s) ≡ sheetSum t
@@ -120,7 +107,7 @@ module _ (s : List ℕ) (l : length s ≤ limit) (m : 452 ≤ length s) where
     pub head-stop : (q : Refusal) → r ≡ Stp.Refused q → Check.Refused q ≡ checkedOf (answer (upTo y) (sheetWalk s))
     unfolding checkedOf
     head-stop q e =
-        let a : answer (upTo y) (sheetWalk s) ≡ refusedBy q = ap (answer (upTo y)) halves ∙ bind-refused (upTo y) (checks 0 (headRules s)) (λ _. tail s) q (step-refused _ q (step-is ∙ e)) in
+        let a : answer (upTo y) (sheetWalk s) ≡ refusedBy q = ap (answer (upTo y)) halves ∙ bind-refused (upTo y) (checks 0 (headRules s)) (λ _. tail s) _ _ _ (step-refused _ q (step-is ∙ e)) in
         sym (ap checkedOf a)
 
 module _ (y : ℕ) (s : List ℕ) where
@@ -138,7 +125,7 @@ module _ (y : ℕ) (s : List ℕ) (H : Headed s y) (n : ℕ) (c : n ≡ number 4
   records = times (number 4 (drop 440 s)) recordWalk 452 (drop 452 s)
 
   here : k ≡ shown (tally (joined flattenRecord)) y records
-  here = rw (rest, c) at means
+  here = rw (rest-is, c) at means
 
   on : answer (upTo y) (sheetWalk s) ≡ answer (upTo y) (tail s)
   on = ap (answer (upTo y)) (halves s (H .short) (H .long)) ∙ bind-on (upTo y) (checks 0 (headRules s)) (λ _. tail s) tt (H .head)
@@ -147,11 +134,11 @@ module _ (y : ℕ) (s : List ℕ) (H : Headed s y) (n : ℕ) (c : n ≡ number 4
       → Check.Refused q ≡ checkedOf (answer (upTo y) (sheetWalk s))
   unfolding checkedOf
   whole-refused q e =
-      let a : answer (upTo y) (sheetWalk s) ≡ refusedBy q = on ∙ bind-refused (upTo y) (whole LEFT-OVER (times (number 4 (drop 440 s)) recordWalk) 452 (drop 452 s)) _ q e in
+      let a : answer (upTo y) (sheetWalk s) ≡ refusedBy q = on ∙ bind-refused (upTo y) (whole LEFT-OVER (times (number 4 (drop 440 s)) recordWalk) 452 (drop 452 s)) _ _ _ _ e in
       sym (ap checkedOf a)
 
   pub sheet-stop : (q : Refusal) → k ≡ Refused q → Check.Refused q ≡ checkedOf (answer (upTo y) (sheetWalk s))
-  sheet-stop q e = whole-refused q (bind-refused (upTo y) records _ q (counted-stop (tally (joined flattenRecord)) (answer (upTo y) records) q (sym here ∙ e)))
+  sheet-stop q e = whole-refused q (bind-refused (upTo y) records _ _ _ _ (counted-stop (tally (joined flattenRecord)) (answer (upTo y) records) q (sym here ∙ e)))
 
   module _ (z : Tally) (e : k ≡ Fine z) where
     pub sheet-left : z .used < length s - 452 → Check.Refused (refusal 13 (452 + z .used) 0) ≡ checkedOf (answer (upTo y) (sheetWalk s))

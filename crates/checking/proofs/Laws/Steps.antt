@@ -1,6 +1,6 @@
 -- Checks that code made as a chain, and what comes after them.
 use mathlib.Core.Bool.{Bool, true, false, cond}
-use mathlib.Core.List.{List, [], _∷_, _++_}
+use mathlib.Core.List.{List, [], _∷_}
 use mathlib.Core.Path.{_≡_, refl, sym, ap, _∙_}
 use Prim.Native.Nat.{ℕ, _+_}
 use lib.Dec.{leb}
@@ -14,17 +14,9 @@ use Rattle.fields.specs.declared.steps.Step.{Step}
 use Rattle.fields.specs.declared.steps.Step.the-variants.{Fine, Refused}
 use Rattle.layout.specs.Answers.Calls.{andThen}
 use Rattle.layout.specs.Refusals.{TOO-NEW}
-use Rattle.layout.specs.Walk.{Walk, Answer, given, refused, answer, upTo, Check, must, dated, checks, holds, _>>=_, _>>_}
+use Rattle.layout.specs.Walk.{Walk, Answer, given, refused, answer, upTo, Check, must, dated, checks, holds, _>>_}
 use Rattle.layout.specs.declared.Refusal.{Refusal}
 use Rattle.laws.proofs.Base.Walks.{answer-bind}
-
--- two lists of checks, one after another
-pub checks-append : {A : Type 0} (p : ℕ) (cs ds : List Check) (w : Walk A) → (checks p (cs ++ ds) >> w) ≡ (checks p cs >> (checks p ds >> w))
-checks-append p [] ds w = refl
-checks-append p (must true n k ∷ cs) ds w = checks-append p cs ds w
-checks-append p (must false n k ∷ cs) ds w = refl
-checks-append p (dated true z k ∷ cs) ds w = rw (checks-append p cs ds w) refl
-checks-append p (dated false z k ∷ cs) ds w = checks-append p cs ds w
 
 abbrev afterStep : Step → Counted → Counted
 afterStep Fine k = k

@@ -1,19 +1,19 @@
 -- A piece and then another, and pieces that fill their bytes.
 use mathlib.Core.Bool.{Bool, true, false, cond}
-use mathlib.Core.List.{List, [], _∷_}
-use mathlib.Core.Path.{_≡_, refl, sym, ap, _∙_}
-use Prim.Native.Nat.{ℕ, _+_, _-_, _≤_, _<_}
+use mathlib.Core.List.{List}
+use mathlib.Core.Path.{_≡_, refl, sym, _∙_}
+use Prim.Native.Nat.{ℕ, _+_, _-_, _<_}
 use borrow.Author.Tests.{le-leb, lt-leb}
 use lib.Dec.{leb}
 use lib.ListN.{length, take, drop}
 use native.Mathlib.Nat.{add-zero}
 use native.Mathlib.Omega.{arith}
-use Rattle.checking.proofs.Laws.Loop.{rest}
 use Rattle.checking.proofs.Laws.Shown.{next, plus, shown-bind, shown-plus, tally-join}
-use Rattle.checking.specs.Tally.{add, tally, tallyOf, shown}
+use Rattle.checking.specs.Tally.{tally, tallyOf, shown}
 use Rattle.checking.specs.declared.tally.Counted.{Counted}
 use Rattle.checking.specs.declared.tally.Counted.the-variants.{Fine, Refused}
 use Rattle.checking.specs.declared.tally.Tally.{Tally}
+use Rattle.fields.proofs.Laws.{rest-is}
 use Rattle.layout.specs.Answers.Enums.{refusal}
 use Rattle.layout.specs.Sheet.{Table}
 use Rattle.layout.specs.Walk.{ends, stops, _>>_, Piece, Pair, pair, whole, Reader}
@@ -37,7 +37,7 @@ module _ {A B : Type 0} (y : ℕ) (f : A → Table) (g : B → Table) (r : Reade
         → plus z m ≡ shown (tally (λ (v : Pair A B). join (f (v .first)) (g (v .second)))) y (pair r s p xs)
     pair-then z h m i =
         let j : Fine z ≡ shown (tally f) y (r p xs) = sym h ∙ e in
-        let l : m ≡ shown (tally g) y (s (p + z .used) (drop (z .used) xs)) = rw rest at i in
+        let l : m ≡ shown (tally g) y (s (p + z .used) (drop (z .used) xs)) = rw rest-is at i in
         sym (pair-shown ∙ rw (← j, ← l) refl)
 
 module _ {A : Type 0} (y : ℕ) (f : A → Table) (n : ℕ) (r : Reader A) (p : ℕ) (xs : List ℕ) (k : Counted) (e : k ≡ shown (tally f) y (r p xs)) where

@@ -1,9 +1,10 @@
--- Lists of which everything is so.
+-- Lists of which everything is so, and parts of lists.
 use mathlib.Core.Bool.{Bool, true, false, _&&_, cond}
 use mathlib.Core.List.{List, [], _∷_, _++_}
 use mathlib.Core.Logic.{_↔_}
 use mathlib.Core.Path.{_≡_, refl}
-use Prim.Native.Nat.{ℕ, zero, suc, _<_}
+use Prim.Native.Nat.{ℕ, zero, suc, _+_, _<_}
+use native.Mathlib.Nat.{zero-add, suc-add}
 use native.Mathlib.Omega.{arith}
 use lib.ListN.{length, take, drop}
 use Rattle.layout.specs.Bytes.{All, flat, some}
@@ -27,6 +28,13 @@ pub all-take : {A : Type 0} (P : A → Type 0) (n : ℕ) (s : List A) → All P 
 all-take P zero s h = tt
 all-take P (suc n) [] h = tt
 all-take P (suc n) (a ∷ s) h = (h .0, all-take P n s (h .1))
+
+-- a part of a part
+pub drop-take : (a b : ℕ) (l : List ℕ) → drop a (take (a + b) l) ≡ take b (drop a l)
+drop-take zero b l = simp zero-add
+drop-take (suc a) zero [] = rw (suc-add a 0) refl
+drop-take (suc a) (suc b) [] = rw (suc-add a (suc b)) refl
+drop-take (suc a) b (x ∷ l) = rw (suc-add a b) (drop-take a b l)
 
 -- there are bytes exactly where there are pieces, if every piece has bytes
 pub some-flat : {A : Type 0} (E : A → List ℕ) → ((a : A) → 0 < length (E a)) → (l : List A) → some (flat E l) ≡ some l

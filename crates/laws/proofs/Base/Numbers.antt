@@ -56,6 +56,10 @@ stored-numbers (w ∷ ws) xs bs h =
     let b = stored-numbers ws (drop w xs) (all-drop _ w xs bs) (rw length-drop (omega arith)) in
     ((number-lt w xs bs, b .0), took-both (bytes w (number w xs)) (storedAll ws (numbers ws (drop w xs))) xs w (total ws) (bytes-number w xs bs (omega arith)) (b .1))
 
+pub length-numbers : (ws xs : List ℕ) → length (numbers ws xs) ≡ length ws
+length-numbers [] xs = refl
+length-numbers (w ∷ ws) xs = ap suc (length-numbers ws (drop w xs))
+
 -- bytes add up to 255 times their count at most
 pub total-bytes : (xs : List ℕ) → Bytes xs → total xs ≤ 255 * length xs
 total-bytes [] b = omega arith

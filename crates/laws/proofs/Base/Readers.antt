@@ -9,10 +9,11 @@ use lib.Dec.{leb}
 use lib.ListN.{length, drop, length-append, length-drop, drop-of-length-le}
 use lib.Seq.{drop-drop, drop-append-seam}
 use native.Mathlib.Omega.{arith}
+use Rattle.layout.specs.Answers.Calls.{andThen}
 use Rattle.layout.specs.Bytes.{All, flat, Bytes}
-use Rattle.layout.specs.Walk.{Walk, ends, outcome, given, answer, upTo, always, _>>=_, _>>_, must, Piece, piece, Reader, times, pair, filling, fill, whole}
+use Rattle.layout.specs.Walk.{Walk, ends, outcome, Answer, given, refused, answer, upTo, always, _>>=_, _>>_, must, Piece, piece, Reader, times, pair, filling, fill, whole}
 use Rattle.laws.proofs.Base.Lists.{all-drop}
-use Rattle.laws.proofs.Base.Walks.{given-inj, bind-case, bind-on, checks-case, checks-on, Allowed, allowed-append, allowed-always, allowed-upTo, outcome-is}
+use Rattle.laws.proofs.Base.Walks.{given-inj, answer-bind, bind-case, bind-on, checks-case, checks-on, Allowed, allowed-append, allowed-always, allowed-upTo, outcome-is}
 
 -- what a reader took: v is the value and the count of its bytes
 abbrev pub Took : {A : Type 0} → (ℕ → Bool) → (A → List ℕ) → (A → Type 0) → (A → List ℕ) → List ℕ → Piece A → Type 0
@@ -139,6 +140,45 @@ pair-reads al r E F Y R s G H Z S = record {
       (bind-on al (s (p + length (E (t .first))) (G (t .second) ++ x)) _ (piece (t .second) (length (G (t .second)))) (S .complete (p + length (E (t .first))) (t .second) x (f .1) (z .1))
       ∙ rw (length-append (E (t .first)) (G (t .second)))));
 }
+
+-- so many pieces are so many
+pub times-length : {A : Type 0} (al : ℕ → Bool) (r : Reader A) (n p : ℕ) (xs : List ℕ) (v : Piece (List A)) → answer al (times n r p xs) ≡ given v → length (v .value) ≡ n
+times-length al r zero p xs v e = rw (← (given-inj e)) refl
+times-length al r (suc n) p xs v e =
+    bind-case al (r p xs) _ v e λ a h i.
+    bind-case al (times n r (p + a .size) (drop (a .size) xs)) _ v i λ u j g.
+    rw (← (given-inj g)) (ap suc (times-length al r n (p + a .size) (drop (a .size) xs) u j))
+
+-- each piece of a reader takes a byte at least, and no more than there are
+pub record Sized {A : Type 0} (al : ℕ → Bool) (r : Reader A) : Type 0 where
+  pub sized : (p : ℕ) (xs : List ℕ) (v : Piece A) → answer al (r p xs) ≡ given v → (0 < v .size) × (v .size ≤ length xs)
+
+-- so pieces up to the end of their bytes do not depend on the fuel
+module _ {A : Type 0} (al : ℕ → Bool) (r : Reader A) (s : Sized al r) where
+  pub filling-fuel : (m n p : ℕ) (xs : List ℕ) → length xs ≤ m → length xs ≤ n → answer al (filling r m p xs) ≡ answer al (filling r n p xs)
+  filling-fuel zero zero p xs h i = refl
+  filling-fuel zero (suc n) p [] h i = refl
+  filling-fuel zero (suc n) p (x ∷ xs) h i = absurd (omega arith)
+  filling-fuel (suc m) zero p [] h i = refl
+  filling-fuel (suc m) zero p (x ∷ xs) h i = absurd (omega arith)
+  filling-fuel (suc m) (suc n) p [] h i = refl
+  filling-fuel (suc m) (suc n) p (x ∷ xs) h i =
+      answer-bind al (r p (x ∷ xs)) (one m)
+      ∙ go (λ q ys. filling-fuel m n q ys) (answer al (r p (x ∷ xs))) refl
+      ∙ sym (answer-bind al (r p (x ∷ xs)) (one n))
+    where
+      one : ℕ → Piece A → Walk (List A)
+      one k a = filling r k (p + a .size) (drop (a .size) (x ∷ xs)) >>= λ more. ends (a .value ∷ more)
+
+      go : ((q : ℕ) (ys : List ℕ) → length ys ≤ m → length ys ≤ n → answer al (filling r m q ys) ≡ answer al (filling r n q ys))
+          → (v : Answer (Piece A)) → answer al (r p (x ∷ xs)) ≡ v → andThen v (λ a. answer al (one m a)) ≡ andThen v (λ a. answer al (one n a))
+      go same (given a) e =
+          let z = s .sized p (x ∷ xs) a e in
+          let l = length-drop (a .size) (x ∷ xs) in
+          answer-bind al (filling r m (p + a .size) (drop (a .size) (x ∷ xs))) (λ more. ends (a .value ∷ more))
+          ∙ ap (λ t. andThen t (λ more. given (a .value ∷ more))) (same (p + a .size) (drop (a .size) (x ∷ xs)) (omega (arith, z, l)) (omega (arith, z, l)))
+          ∙ sym (answer-bind al (filling r n (p + a .size) (drop (a .size) (x ∷ xs))) (λ more. ends (a .value ∷ more)))
+      go same (refused n q z) e = refl
 
 -- what a whole sheet's two laws come to
 pub record Law {A : Type 0} (w : List ℕ → Walk A) (E : A → List ℕ) (F : A → Type 0) (Y : A → List ℕ) : Type 0 where

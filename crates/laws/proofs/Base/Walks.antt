@@ -48,6 +48,14 @@ bind-assoc (ends a) f g = refl
 bind-assoc (stops n p) f g = refl
 bind-assoc (meets p z w) f g = ap (λ v. meets p z v) (bind-assoc w f g)
 
+-- two lists of checks, one after another
+pub checks-append : {A : Type 0} (p : ℕ) (cs ds : List Check) (w : Walk A) → (checks p (cs ++ ds) >> w) ≡ (checks p cs >> (checks p ds >> w))
+checks-append p [] ds w = refl
+checks-append p (must true n k ∷ cs) ds w = checks-append p cs ds w
+checks-append p (must false n k ∷ cs) ds w = refl
+checks-append p (dated true z k ∷ cs) ds w = rw (checks-append p cs ds w) refl
+checks-append p (dated false z k ∷ cs) ds w = checks-append p cs ds w
+
 -- the years that are allowed
 abbrev pub Allowed : (ℕ → Bool) → List ℕ → Type 0
 Allowed al ys = All (λ z. al z ≡ true) ys
@@ -85,6 +93,9 @@ answer-bind al (meets p z w) f = step (al z) (answer-bind al w f)
     step true e = e
     step false e = refl
 
+pub bind-refused : {A B : Type 0} (al : ℕ → Bool) (w : Walk A) (f : A → Walk B) (n p z : ℕ) → answer al w ≡ refused n p z → answer al (w >>= f) ≡ refused n p z
+bind-refused al w f n p z e = answer-bind al w f ∙ ap (λ v. andThen v (λ a. answer al (f a))) e
+
 -- what a setting allows
 pub allowed-append : (al : ℕ → Bool) (s t : List ℕ) → Allowed al (s ++ t) ↔ (Allowed al s × Allowed al t)
 allowed-append al s t = all-append (λ z. al z ≡ true) s t
@@ -112,3 +123,9 @@ pub outcome-is : {A : Type 0} (w : Walk A) (a : A) → (outcome w ≡ ends a) �
 outcome-is (ends b) a = (λ e. cc, λ e. cc)
 outcome-is (stops n p) a = (λ e. cc, λ e. cc)
 outcome-is (meets p z w) a = outcome-is w a
+
+-- what is given at some years is what the 2017 walk ends in
+pub given-ends : {A : Type 0} (al : ℕ → Bool) (w : Walk A) (a : A) → answer al w ≡ given a → outcome w ≡ ends a
+given-ends al (ends b) a e = cc
+given-ends al (stops n p) a e = absurd (let q : _≡_ {A = ℕ} 0 1 = cc in omega arith)
+given-ends al (meets p z w) a e = given-ends al w a (cond-back (al z) _ _ _ _ a e .1)

@@ -5,7 +5,8 @@ use native.Mathlib.Omega.{arith}
 use mathlib.Core.Path.{sym, _∙_}
 use denote.Ref.{now}
 use Rattle.checking.specs.declared.tally.Counted.the-variants.{Fine, Refused}
-use Rattle.checking.proofs.Laws.Loop.{rest, within-fine, rest-within}
+use Rattle.fields.proofs.Laws.{rest-is}
+use Rattle.checking.proofs.Laws.Loop.{within-fine, rest-within}
 use Rattle.checking.proofs.Laws.Wholes.{pair-stop, pair-then}
 use lib.ListN.{length-drop}
 use borrow.Author.Needs.{needs}
@@ -24,7 +25,7 @@ add-subobjects c = let w = within-fine _ _ (c .before .before .before .before .p
 subobjects-requires : tie.Need-subobjects-requires
 subobjects-requires c κs =
     let w = within-fine _ _ (c .before .before .before .before .part .result) _ (c .before .before .first .given .1) (c .before .before .before .before .part .ensures .1) in
-    rw (rest, length-drop) (omega (arith, w))
+    rw (rest-is, length-drop) (omega (arith, w))
 
 sum-requires : tie.Need-sum-requires
 sum-requires c κs =

@@ -17,10 +17,10 @@ add-t25 c = let w = rest-within _ _ (now (c .before .before .before .before .bef
 returns-2 : tie.Need-returns-2
 returns-2 c =
     let w = rest-within _ _ (now (c .before .before .before .before .before .before .before .before .before .before .before .args .xs)) (c .before .before .before .before .part .result) (c .before .before .before .before .part .ensures .1) _ (c .before .before .t .given .1) in
-    (λ y. subobject-then y _ _ _ _ (c .before .before .before .before .before .before .before .before .before .if1 .left) _ _ (c .before .before .before .before .before .before .before .before .u16-at .ensures) (c .before .before .before .before .before .before .before .u16-at2 .ensures) (c .before .before .before .before .before .before .if2 .taken) (Fine (c .before .before .t .given .0 .0)) (sym (c .before .before .t .given .1) ∙ c .before .before .before .before .part .ensures .0 y), omega (arith, w))
+    (λ y. subobject-then y _ _ _ _ (c .before .before .before .before .before .before .before .before .before .if1 .left) _ _ (c .before .before .before .before .before .before .before .before .u16-at .ensures) (c .before .before .before .before .before .before .before .u16-at2 .ensures) (c .before .before .before .before .before .before .if2 .taken) _ (omega arith) (Fine (c .before .before .t .given .0 .0)) (sym (c .before .before .t .given .1) ∙ c .before .before .before .before .part .ensures .0 y), omega (arith, w))
 
 returns-3 : tie.Need-returns-3
-returns-3 c = (λ y. subobject-then y _ _ _ _ (c .before .before .before .before .before .before .before .before .if1 .left) _ _ (c .before .before .before .before .before .before .before .u16-at .ensures) (c .before .before .before .before .before .before .u16-at2 .ensures) (c .before .before .before .before .before .if2 .taken) (Refused (c .before .r .given .0 .0)) (sym (c .before .r .given .1) ∙ c .before .before .before .part .ensures .0 y), tt)
+returns-3 c = (λ y. subobject-then y _ _ _ _ (c .before .before .before .before .before .before .before .before .if1 .left) _ _ (c .before .before .before .before .before .before .before .u16-at .ensures) (c .before .before .before .before .before .before .u16-at2 .ensures) (c .before .before .before .before .before .if2 .taken) _ (omega arith) (Refused (c .before .r .given .0 .0)) (sym (c .before .r .given .1) ∙ c .before .before .before .part .ensures .0 y), tt)
 
 returns-4 : tie.Need-returns-4
 returns-4 c = (λ y. subobject-count y _ _ _ _ (c .before .before .before .if1 .left) _ _ (c .before .before .u16-at .ensures) (c .before .u16-at2 .ensures) (c .if2 .left), tt)

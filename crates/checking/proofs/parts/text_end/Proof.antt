@@ -1,40 +1,14 @@
-use mathlib.Core.Path.{refl}
 use native.Mathlib.Omega.{arith}
-use lib.ListN.{length}
-use Rattle.checking.proofs.Laws.Texts.{text-none, text-short, text-fine, text-open}
+use Rattle.checking.proofs.Laws.Texts.{text-none}
 use borrow.Author.Needs.{needs}
 use Rattle.checking.proofs.parts.text_end.Statement.{statement}
 use Rattle.checking.proofs.parts.text_end.Tie as tie
 
 returns : tie.Need-returns
-returns c = (λ y. text-short y _ _ _ _ (c .before .if1 .taken) refl (omega arith), tt)
+returns c = rw (c .before .if1 .taken) (c .text-of .ensures)
 
 returns-2 : tie.Need-returns-2
-returns-2 c = (λ y. text-short y _ _ _ _ (c .before .before .before .if1 .taken) (c .before .u8-at .ensures) (omega arith), tt)
-
-returns-3 : tie.Need-returns-3
-returns-3 c = (λ y. text-fine y _ _ _ _ (c .before .before .before .before .before .if1 .taken) (c .before .before .before .u8-at .ensures) (omega arith) (search needs), omega arith)
-
-returns-4 : tie.Need-returns-4
-returns-4 c = (λ y. text-open y _ _ _ _ (c .before .before .before .before .before .if1 .taken) (c .before .before .before .u8-at .ensures) (omega arith) (search needs), tt)
-
-returns-5 : tie.Need-returns-5
-returns-5 c = (λ y. text-none y _ _ _ (c .if1 .left), omega arith)
+returns-2 c = (λ y. text-none y _ _ _ (c .if1 .left), omega arith)
 
 pub text-end-spec : {M : Type 1} → statement M
-text-end-spec =
-    tie.close
-    (tie.spec
-    returns
-    (λ c κs. search needs)
-    (λ c. search needs)
-    (λ c. search needs)
-    returns-2
-    (λ c. search needs)
-    (λ c κs. search needs)
-    (λ c. search needs)
-    returns-3
-    (λ c. search needs)
-    (λ c. search needs)
-    returns-4
-    returns-5)
+text-end-spec = tie.close (tie.spec (λ c κs. search needs) returns returns-2)

@@ -1,8 +1,6 @@
 use native.Mathlib.Omega.{arith}
-use mathlib.Core.Path.{_≡_, ap}
-use Prim.Native.Nat.{_+_, _≤_}
+use mathlib.Core.Path.{ap}
 use denote.Ref.{now}
-use lib.ListN.{length}
 use Rattle.checking.specs.declared.tally.Tally.{Tally}
 use Rattle.checking.proofs.Laws.Loop.{within-fine, within-more}
 use Rattle.checking.proofs.Laws.Records.{metric-length, semantics-length, rest-stop, rest-on}
@@ -30,12 +28,12 @@ returns c =
     let s = semantics-length (now (c .before .before .before .before .before .before .before .before .before .before .before .before .before .before .args .xs)) (c .before .before .before .before .before .before .before .before .before .before .before .before .before .before .args .h) (c .before .before .before .before .before .before .before .before .before .before .before .before .before .before .pre .1) in
     let w = within-fine _ _ (c .before .before .before .before .before .before .before .metric .result) _ (c .before .before .before .before .before .m .given .1) (c .before .before .before .before .before .before .before .metric .ensures .1) in
     let g = c .before .before .before .before .before .before .before .before .before .before .before .before .before .before .pre in (
-      rest-on (now (c .before .before .before .before .before .before .before .before .before .before .before .before .before .before .args .xs)) (c .before .before .before .before .before .before .before .before .before .before .before .before .before .before .args .h) (c .before .before .before .before .before .before .before .before .before .before .before .before .before .before .pre .1) (c .before .before .before .before .before .before .before .before .before .before .before .before .before .before .args .year) (c .before .before .before .before .before .before .before .before .before .before .before .before .before .before .args .p) (c .before .before .before .before .before .before .before .before .before .before .first-count .result) (c .before .before .before .before .before .before .before .before .before .before .first-count .ensures .0) (c .before .before .before .before .before .before .before .metric .result) (c .before .before .before .before .before .before .before .metric .ensures .0 (c .before .before .before .before .before .before .before .before .before .before .before .before .before .before .args .year)) _ (c .before .before .before .before .before .m .given .1) (c .before .before .before .sum .result) (c .before .before .before .sum .ensures) _ (c .semantics .ensures .0),
+      rest-on (now (c .before .before .before .before .before .before .before .before .before .before .before .before .before .before .args .xs)) (c .before .before .before .before .before .before .before .before .before .before .before .before .before .before .args .h) (c .before .before .before .before .before .before .before .before .before .before .before .before .before .before .pre .1) (c .before .before .before .before .before .before .before .before .before .before .before .before .before .before .args .year) (c .before .before .before .before .before .before .before .before .before .before .before .before .before .before .args .p) (c .before .before .before .before .before .before .before .before .before .before .first-count .result) (c .before .before .before .before .before .before .before .before .before .before .first-count .ensures) (c .before .before .before .before .before .before .before .metric .result) (c .before .before .before .before .before .before .before .metric .ensures .0 (c .before .before .before .before .before .before .before .before .before .before .before .before .before .before .args .year)) _ (c .before .before .before .before .before .m .given .1) (c .before .before .before .sum .result) (c .before .before .before .sum .ensures) _ (c .semantics .ensures .0),
       within-more _ _ _ (c .semantics .result) (omega (arith, w, n, s, g, ap (λ (t : Tally). t .used) (c .before .before .before .sum .ensures))) (c .semantics .ensures .1),
     )
 
 returns-2 : tie.Need-returns-2
-returns-2 c = (rest-stop (now (c .before .before .before .before .before .before .before .before .before .before .args .xs)) (c .before .before .before .before .before .before .before .before .before .before .args .h) (c .before .before .before .before .before .before .before .before .before .before .pre .1) (c .before .before .before .before .before .before .before .before .before .before .args .year) (c .before .before .before .before .before .before .before .before .before .before .args .p) (c .before .before .before .before .before .before .first-count .result) (c .before .before .before .before .before .before .first-count .ensures .0) (c .before .before .before .metric .result) (c .before .before .before .metric .ensures .0 (c .before .before .before .before .before .before .before .before .before .before .args .year)) _ (c .before .r .given .1), tt)
+returns-2 c = (rest-stop (now (c .before .before .before .before .before .before .before .before .before .before .args .xs)) (c .before .before .before .before .before .before .before .before .before .before .args .h) (c .before .before .before .before .before .before .before .before .before .before .pre .1) (c .before .before .before .before .before .before .before .before .before .before .args .year) (c .before .before .before .before .before .before .before .before .before .before .args .p) (c .before .before .before .before .before .before .first-count .result) (c .before .before .before .before .before .before .first-count .ensures) (c .before .before .before .metric .result) (c .before .before .before .metric .ensures .0 (c .before .before .before .before .before .before .before .before .before .before .args .year)) _ (c .before .r .given .1), tt)
 
 pub rest-spec : {M : Type 1} → statement M
 rest-spec =
@@ -45,6 +43,7 @@ rest-spec =
     (λ c. search needs)
     (λ c. search needs)
     (λ c κs. search needs)
+    (λ c. search needs)
     (λ c. search needs)
     (λ c. search needs)
     (λ c. search needs)

@@ -1,0 +1,21 @@
+// Numbers of a record that more than one field of its header says. (01, Record)
+ghost use mathlib.Core.Path.{_≡_};
+ghost use Rattle.layout.specs.Shared.Mark.{firstCount};
+ghost use Rattle.layout.specs.Shared.Row.{referenceNumber};
+
+// The first part's count of points: under the mark 65535 it is the word.
+pub fn first_count(points: u16, word: u32) -> u32
+    ensures { λ r. ⌜ r ≡ firstCount points word ⌝ }
+{
+    if points == 65535 {
+        return word;
+    }
+    points as u32
+}
+
+// The three reference bytes as one number, as the table has them.
+pub fn reference_number(b20: u8, b21: u8, b22: u8) -> u32
+    ensures { λ r. ⌜ r ≡ referenceNumber (record { byte20 = b20; byte21 = b21; byte22 = b22 }) ⌝ }
+{
+    (b20 as u32) + 256 * (b21 as u32) + 65536 * (b22 as u32)
+}
