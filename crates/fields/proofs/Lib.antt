@@ -1,3 +1,4 @@
 -- Laws that the functions' proofs cite.
 pub mod Laws
 pub mod Chain
+pub mod Put

@@ -1,3 +1,4 @@
 -- What code answers on its way: a step so far, and the next.
 pub mod Steps
 pub mod Flags
+pub mod Shapes

@@ -7,7 +7,8 @@ use lib.ListN.{length, take, drop, length-drop}
 use lib.Seq.{sets, drop-drop, length-take-le}
 use native.Mathlib.Nat.{zero-mul}
 use native.Mathlib.Omega.{arith}
-use Rattle.filling.specs.Parts.{dimensions, textIn, textSize}
+use Rattle.filling.specs.Parts.{textIn, textSize}
+use Rattle.fields.specs.Shapes.{dimensions}
 use Rattle.layout.specs.Bytes.{number, numbers, repeat}
 use Rattle.layout.specs.Shared.Widths.{planar, elementWidths, pointBytes}
 

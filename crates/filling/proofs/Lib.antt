@@ -1,5 +1,4 @@
 -- Laws that the functions' proofs cite.
-pub mod Put
 pub mod Elements
 pub mod Moves
 pub mod OnePart

@@ -11,7 +11,7 @@ use Rattle.filling.specs.Cursors.{moved, Room, Wrote}
 use Rattle.filling.specs.declared.cursors.Cursor.{Cursor}
 use Rattle.layout.specs.Sheet.{Table}
 use Rattle.layout.specs.Writing.Tables.{table, join}
-use Rattle.filling.proofs.Put.{sets-append}
+use Rattle.fields.proofs.Put.{sets-append}
 
 -- a cursor moved twice
 pub moved-twice : (c : Cursor) (k m : ℕ) (a b : Table) → moved (moved c k a) m b ≡ moved c (k + m) (join a b)

@@ -8,9 +8,10 @@ use lib.Seq.{sets, drop-drop}
 use native.Mathlib.Nat.{add-assoc}
 use native.Mathlib.Omega.{arith}
 use Rattle.filling.specs.Cursors.{moved, Room, Wrote}
-use Rattle.filling.specs.Parts.{dimensions, widthsOf, pointOf, textIn, textSize, partIn, partSize, countIn, subobjectIn, subobjectSize}
+use Rattle.filling.specs.Parts.{textIn, textSize, partIn, partSize, countIn, subobjectIn, subobjectSize}
+use Rattle.fields.specs.Shapes.{dimensions, widthsOf, pointOf}
 use Rattle.filling.specs.declared.cursors.Cursor.{Cursor}
-use Rattle.filling.specs.declared.shapes.Shape.{Shape}
+use Rattle.fields.specs.declared.shapes.Shape.{Shape}
 use Rattle.layout.specs.Bytes.{number, numbers, repeat}
 use Rattle.layout.specs.Shared.Widths.{elementWidths}
 use Rattle.layout.specs.Sheet.{Table}

@@ -6,11 +6,12 @@ use lib.ListN.{length, take, drop, length-append, length-drop}
 use lib.Seq.{sets, drop-drop, length-sets, length-take-le}
 use native.Mathlib.Omega.{arith}
 use Rattle.filling.specs.Cursors.{moved, Room, Wrote}
-use Rattle.filling.specs.Parts.{shapeOf, partIn, partSize, subobjectIn, subobjectSize}
+use Rattle.filling.specs.Parts.{partIn, partSize, subobjectIn, subobjectSize}
+use Rattle.fields.specs.Shapes.{shapeOf}
 use Rattle.filling.specs.Pieces.{timesIn, timesSize, fillIn, fillSize}
 use Rattle.filling.specs.Records.{shapeIn, firstIn, laterIn, recordOf, recordIn, recordSize, metricSize, metricTable, rowOf, RecordFits, inside}
 use Rattle.filling.specs.declared.cursors.Cursor.{Cursor}
-use Rattle.filling.specs.declared.shapes.Shape.{Shape}
+use Rattle.fields.specs.declared.shapes.Shape.{Shape}
 use Rattle.layout.specs.Bytes.{number}
 use Rattle.layout.specs.Reading.Items.{itemIn, itemSize}
 use Rattle.layout.specs.Reading.Records.{Header, headerIn, metricIn, semanticsIn}
@@ -21,7 +22,7 @@ use Rattle.layout.specs.Writing.Tables.{table, join, joined, flattenHeader, fla
 use Rattle.filling.proofs.Loops.{times-length}
 use Rattle.filling.proofs.Moves.{moved-twice, room-first, room-second}
 use Rattle.filling.proofs.OneItem.{items-flat, items-four}
-use Rattle.filling.proofs.Put.{sets-append, sets-swap}
+use Rattle.fields.proofs.Put.{sets-append, sets-swap}
 
 -- one table after another
 pub wrote-twice : (c : Cursor) (k : ℕ) (a b : Table) (t₀ e₀ b₀ t₁ e₁ b₁ t₂ e₂ b₂ : List ℕ) → Wrote c a t₀ e₀ b₀ t₁ e₁ b₁ → Wrote (moved c k a) b t₁ e₁ b₁ t₂ e₂ b₂

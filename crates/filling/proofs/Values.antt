@@ -7,7 +7,8 @@ use borrow.Author.Tests.{leb-true}
 use lib.Dec.{eqb, leb}
 use lib.ListN.{length, drop, length-drop}
 use native.Mathlib.Omega.{arith}
-use Rattle.filling.specs.Parts.{shapeOf, textIn, textSize, partIn, partSize, countIn, subobjectIn, subobjectSize}
+use Rattle.filling.specs.Parts.{textIn, textSize, partIn, partSize, countIn, subobjectIn, subobjectSize}
+use Rattle.fields.specs.Shapes.{shapeOf}
 use Rattle.filling.specs.Pieces.{timesIn, timesSize, fillingIn, fillingSize, fillIn, fillSize, Each}
 use Rattle.layout.specs.Bytes.{number, numberIn}
 use Rattle.layout.specs.Fields.Item as ItemField

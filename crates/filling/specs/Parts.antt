@@ -4,28 +4,12 @@ use mathlib.Core.List.{List, []}
 use Prim.Native.Nat.{ℕ, _+_, _*_}
 use lib.ListN.{take, drop}
 use Rattle.filling.specs.Pieces.{timesIn, timesSize}
-use Rattle.filling.specs.declared.shapes.Shape.{Shape}
+use Rattle.fields.specs.declared.shapes.Shape.{Shape}
+use Rattle.fields.specs.Shapes.{widthsOf, pointOf}
 use Rattle.layout.specs.Bytes.{number, numberIn, numbers, repeat}
 use Rattle.layout.specs.Fields.Subobject
 use Rattle.layout.specs.Shared.Mark.{laterCount}
-use Rattle.layout.specs.Shared.Reference.{elementSize, floating, threeDimensions, textInMetric}
-use Rattle.layout.specs.Shared.Widths.{elementWidths, pointBytes}
-use Rattle.layout.specs.Sheet.{Part, Reference}
-
--- what the reference bytes say of each part of a record
-abbrev pub shapeOf : Reference → Shape
-shapeOf r = record { size = elementSize r; float = floating r; three = threeDimensions r; text = textInMetric r }
-
--- how many elements a point has
-abbrev pub dimensions : Bool → ℕ
-dimensions true = 3
-dimensions false = 2
-
-abbrev pub widthsOf : Shape → List ℕ
-widthsOf s = elementWidths (s .size) (s .float) (s .three)
-
-abbrev pub pointOf : Shape → ℕ
-pointOf s = pointBytes (s .size) (s .float) (s .three)
+use Rattle.layout.specs.Sheet.{Part}
 
 abbrev pub textIn : Bool → List ℕ → List ℕ
 textIn false xs = []

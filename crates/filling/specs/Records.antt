@@ -3,10 +3,11 @@ use mathlib.Core.List.{List, [], _∷_}
 use Prim.Native.Nat.{ℕ, _+_, _≤_}
 use lib.ListN.{length, drop}
 use Rattle.filling.specs.Items.{itemsIn, itemsSize}
-use Rattle.filling.specs.Parts.{shapeOf, partIn, partSize, subobjectsIn, subobjectsSize}
+use Rattle.filling.specs.Parts.{partIn, partSize, subobjectsIn, subobjectsSize}
+use Rattle.fields.specs.Shapes.{shapeOf}
 use Rattle.filling.specs.Pieces.{timesIn, timesSize}
 use Rattle.filling.specs.declared.cursors.Cursor.{Cursor}
-use Rattle.filling.specs.declared.shapes.Shape.{Shape}
+use Rattle.fields.specs.declared.shapes.Shape.{Shape}
 use Rattle.layout.specs.Bytes.{numberIn}
 use Rattle.layout.specs.Fields.Header as Field
 use Rattle.layout.specs.Reading.Records.{Header, headerIn, metricIn, semanticsIn}

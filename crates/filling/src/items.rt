@@ -10,8 +10,8 @@ ghost use Rattle.layout.specs.Reading.Items.{valueAt, itemIn, itemSize};
 ghost use Rattle.layout.specs.Shared.Types.{kindOf, valueLength};
 ghost use Rattle.layout.specs.Writing.Tables.{joined, flattenItem};
 use crate::cursors::Cursor;
-use crate::pools;
 use crate::rows;
+use fields::copies;
 use fields::numbers;
 
 // Where the value of an item of a type starts.
@@ -63,7 +63,7 @@ pub fn fill_item(xs: &[u8], c: Cursor, table: &mut [u64], bytes: &mut [u8]) -> C
     let scale = numbers::u8_at(xs, at + 3);
     let p = value_place(kind);
     let n = value_length(xs, at, kind, scale);
-    pools::put_bytes(xs, at + p, n, bytes, b);
+    copies::put_bytes(xs, at + p, n, bytes, b);
     rows::put_item(table, w, code, kind, scale, n);
     Cursor {
         place: at + p + n,

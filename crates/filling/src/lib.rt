@@ -9,5 +9,4 @@ pub mod parts;
 pub mod pools;
 pub mod records;
 pub mod rows;
-pub mod shapes;
 pub mod sheets;

@@ -5,15 +5,17 @@ ghost use Prim.Native.Nat.{_+_, _*_, _≤_, _<_, _^_};
 ghost use lib.ListN.{length, drop};
 ghost use lib.Seq.{sets};
 ghost use Rattle.filling.specs.Cursors.{ahead, moved, Room, Wrote};
-ghost use Rattle.filling.specs.Parts.{widthsOf, pointOf, textIn, textSize, partIn, partSize, subobjectIn, subobjectSize, subobjectsIn, subobjectsSize};
+ghost use Rattle.filling.specs.Parts.{textIn, textSize, partIn, partSize, subobjectIn, subobjectSize, subobjectsIn, subobjectsSize};
+ghost use Rattle.fields.specs.Shapes.{widthsOf, pointOf};
 ghost use Rattle.layout.specs.Bytes.{numbers, repeat};
 ghost use Rattle.layout.specs.Writing.Tables.{joined, flattenPart};
 use crate::cursors::Cursor;
 use crate::pools;
 use crate::rows;
-use crate::shapes;
-use crate::shapes::Shape;
+use fields::copies;
 use fields::numbers;
+use fields::shapes;
+use fields::shapes::Shape;
 
 // The elements of so many points.
 pub fn put_elements(xs: &[u8], at: usize, count: usize, s: Shape, out: &mut [u64], w: usize)
@@ -44,7 +46,7 @@ pub fn fill_text(xs: &[u8], at: usize, text: bool, out: &mut [u8], w: usize) -> 
 {
     if text {
         let n = numbers::u8_at(xs, at) as usize;
-        pools::put_bytes(xs, at + 1, n, out, w);
+        copies::put_bytes(xs, at + 1, n, out, w);
         return n;
     }
     0

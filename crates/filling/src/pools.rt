@@ -1,4 +1,4 @@
-// Writers of the two pools: bytes, and elements of a width as u64. One tight loop each; which loop is chosen once a part.
+// Writers of the element pool: elements of a width as u64. One tight loop each; which loop is chosen once a part.
 ghost use mathlib.Core.Path.{_≡_};
 ghost use mathlib.Core.List.{[], _∷_};
 ghost use Prim.Native.Nat.{_+_, _*_, _≤_, _<_};
@@ -6,18 +6,6 @@ ghost use lib.ListN.{length, drop, take};
 ghost use lib.Seq.{sets};
 ghost use Rattle.layout.specs.Bytes.{numbers, repeat};
 use fields::numbers;
-
-// n bytes from at on, to out at w.
-pub fn put_bytes(xs: &[u8], at: usize, n: usize, out: &mut [u8], w: usize)
-    requires { ⌜ (at + n ≤ length (now xs)) × (w + n ≤ length (now out)) ⌝ }
-    ensures { λ _. ⌜ now (out .exit) ≡ sets (now (out .entry)) w (take n (drop at (now (xs .entry)))) ⌝ }
-{
-    let mut i: usize = 0;
-    while i < n {
-        out[w + i] = xs[at + i];
-        i += 1;
-    }
-}
 
 // n elements of two bytes from at on, to out at w.
 pub fn put2(xs: &[u8], at: usize, n: usize, out: &mut [u64], w: usize)

@@ -13,11 +13,11 @@ use crate::cursors::Cursor;
 use crate::items;
 use crate::parts;
 use crate::rows;
-use crate::shapes;
-use crate::shapes::Shape;
 use fields::numbers;
 use fields::records::first_count;
 use fields::records::reference_number;
+use fields::shapes;
+use fields::shapes::Shape;
 
 // The first part, and so many later ones.
 fn fill_metric(

@@ -1,10 +1,11 @@
 -- The laws of numbers and bytes, once over the width, and of numbers one after another, once over the widths.
 use mathlib.Core.List.{List, [], _∷_, _++_, append-assoc}
-use mathlib.Core.Path.{_≡_, refl, ap, sym}
+use mathlib.Core.Path.{_≡_, refl, ap, sym, _∙_}
 use Prim.Native.Nat.{ℕ, zero, suc, _+_, _*_, _/_, _%_, _^_, _≤_, _<_}
+use lib.Arith.{mod-mul}
 use lib.ListN.{length, drop, getD, length-append, length-drop}
 use lib.Seq.{drop-at}
-use native.Mathlib.Nat.{zero-mul, suc-mul}
+use native.Mathlib.Nat.{zero-mul, suc-mul, pow-zero, pow-succ', one-le-pow}
 use native.Mathlib.Omega.{arith}
 use Rattle.layout.specs.Bytes.{Bytes, number, bytes, numbers, storedAll, FitAll, repeat, total}
 use Rattle.laws.proofs.Base.Lists.{all-drop}
@@ -26,6 +27,15 @@ pub number-lt : (n : ℕ) (xs : List ℕ) → Bytes xs → number n xs < 256 ^ n
 number-lt zero xs b = omega arith
 number-lt (suc n) [] b = omega (arith, number-lt n [] tt)
 number-lt (suc n) (x ∷ xs) b = omega (arith, number-lt n xs (b .1), b .0)
+
+-- the first n of m bytes of a number are its low ones
+pub number-low : (n m v : ℕ) → n ≤ m → number n (bytes m v) ≡ v % 256 ^ n
+number-low zero m v h = omega (arith, pow-zero 256)
+number-low (suc n) zero v h = absurd (omega arith)
+number-low (suc n) (suc m) v h =
+    let up : 256 ^ suc n ≡ 256 ^ n * 256 = omega (arith, pow-succ' 256 n) in
+    let split = mod-mul v {m = 256 ^ n} {c = 256} (one-le-pow n 256 (omega arith)) (omega arith) in
+    rw (number-low n m (v / 256) (omega arith)) (omega (arith, ap (λ (x : ℕ). v % x) up ∙ split))
 
 pub bytes-number : (n : ℕ) (xs : List ℕ) → Bytes xs → n ≤ length xs → bytes n (number n xs) ++ drop n xs ≡ xs
 bytes-number zero xs b h = refl

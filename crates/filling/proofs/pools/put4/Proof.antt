@@ -4,7 +4,7 @@ use mathlib.Core.List.{[], _∷_}
 use native.Mathlib.Nat.{one-mul}
 use native.Mathlib.Omega.{arith}
 use borrow.Author.Needs.{needs}
-use Rattle.filling.proofs.Put.{Putting, put-start, put-turn, put-done}
+use Rattle.fields.proofs.Put.{Putting, put-start, put-turn, put-done}
 use Rattle.filling.proofs.pools.put4.Statement.{statement}
 use Rattle.filling.proofs.pools.put4.Tie as tie
 

@@ -1,10 +1,10 @@
-use Rattle.filling.proofs.Put.{point-turn}
+use Rattle.fields.proofs.Put.{point-turn}
 use Prim.Native.Nat.{_+_, _-_, _*_}
 use mathlib.Core.List.{[], _∷_}
 use native.Mathlib.Omega.{arith}
 use borrow.Author.Needs.{needs}
 use lib.ListN.{length-set}
-use Rattle.filling.proofs.Put.{Putting, put-start, put-turn, put-done}
+use Rattle.fields.proofs.Put.{Putting, put-start, put-turn, put-done}
 use Rattle.filling.proofs.pools.put_points.Statement.{statement}
 use Rattle.filling.proofs.pools.put_points.Tie as tie
 

@@ -1,7 +1,7 @@
 use native.Mathlib.Nat.{mod-eq-of-lt}
 use native.Mathlib.Omega.{arith}
 use Rattle.layout.specs.Answers.Values.{semanticValue}
-use Rattle.views.proofs.Items.{number-low}
+use Rattle.laws.proofs.Base.Numbers.{number-low}
 use Rattle.views.proofs.Integers.{other}
 use Rattle.views.specs.Values.{itemOf}
 use borrow.Author.Needs.{needs}

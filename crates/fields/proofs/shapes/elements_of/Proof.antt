@@ -1,8 +1,8 @@
 use mathlib.Core.Path.{refl}
 use native.Mathlib.Omega.{arith}
 use borrow.Author.Needs.{needs}
-use Rattle.filling.proofs.shapes.elements_of.Statement.{statement}
-use Rattle.filling.proofs.shapes.elements_of.Tie as tie
+use Rattle.fields.proofs.shapes.elements_of.Statement.{statement}
+use Rattle.fields.proofs.shapes.elements_of.Tie as tie
 
 returns : tie.Need-returns
 returns c = (rw (c .if1 .taken) refl, omega arith)

@@ -2,7 +2,7 @@
 ghost use mathlib.Core.Bool.{true, false};
 ghost use mathlib.Core.Path.{_≡_};
 ghost use Prim.Native.Nat.{_*_, _≤_, _<_, _^_};
-ghost use Rattle.filling.specs.Parts.{shapeOf, dimensions, pointOf};
+ghost use Rattle.fields.specs.Shapes.{shapeOf, dimensions, pointOf};
 ghost use Rattle.layout.specs.Shared.Widths.{pointBytes};
 
 pub struct Shape {

@@ -1,6 +1,6 @@
 use borrow.Author.Needs.{needs}
-use Rattle.filling.proofs.shapes.point_size.Statement.{statement}
-use Rattle.filling.proofs.shapes.point_size.Tie as tie
+use Rattle.fields.proofs.shapes.point_size.Statement.{statement}
+use Rattle.fields.proofs.shapes.point_size.Tie as tie
 
 returns : tie.Need-returns
 returns c = rw (c .before .if1 .taken) (c .three-dimensions .ensures)

@@ -2,9 +2,9 @@ use Prim.Native.Nat.{_-_}
 use mathlib.Core.Path.{refl}
 use native.Mathlib.Omega.{arith}
 use borrow.Author.Needs.{needs}
-use Rattle.filling.proofs.Put.{Copying, copy-start, copy-turn, copy-done}
-use Rattle.filling.proofs.pools.put_bytes.Statement.{statement}
-use Rattle.filling.proofs.pools.put_bytes.Tie as tie
+use Rattle.fields.proofs.Put.{Copying, copy-start, copy-turn, copy-done}
+use Rattle.fields.proofs.copies.put_bytes.Statement.{statement}
+use Rattle.fields.proofs.copies.put_bytes.Tie as tie
 
 abbrev Inv-loop : tie.InvT-loop
 Inv-loop xs at n out₀ w i₀ out i = Copying xs at n w out₀ i out
