@@ -1,0 +1,9 @@
+use mathlib.Core.Path.{refl}
+use Rattle.fields.proofs.shapes.shape_of.Statement.{statement}
+use Rattle.fields.proofs.shapes.shape_of.Tie as tie
+
+returns : tie.Need-returns
+returns c = refl
+
+pub shape-of-spec : {M : Type 1} → statement M
+shape-of-spec = tie.close (tie.spec returns)
