@@ -33,11 +33,11 @@ pub length-numbers : (ws xs : List ℕ) → length (numbers ws xs) ≡ length ws
 length-numbers [] xs = refl
 length-numbers (w ∷ ws) xs = ap suc (length-numbers ws (drop w xs))
 
-repeat-cons : (n : ℕ) (ws : List ℕ) → 0 < n → repeat n ws ≡ ws ++ repeat (n - 1) ws
+pub repeat-cons : (n : ℕ) (ws : List ℕ) → 0 < n → repeat n ws ≡ ws ++ repeat (n - 1) ws
 repeat-cons zero ws h = absurd (omega arith)
 repeat-cons (suc n) ws h = let e : suc n - 1 ≡ n = omega arith in rw e
 
-repeat-none : (n : ℕ) (ws : List ℕ) → n ≤ 0 → repeat n ws ≡ []
+pub repeat-none : (n : ℕ) (ws : List ℕ) → n ≤ 0 → repeat n ws ≡ []
 repeat-none zero ws h = refl
 repeat-none (suc n) ws h = absurd (omega arith)
 
