@@ -1,8 +1,8 @@
 -- Points whose elements are all of one width are so many elements of that width: for code that chooses a loop by the width.
 use mathlib.Core.Bool.{Bool, true, false, cond}
-use mathlib.Core.List.{List, [], _∷_}
+use mathlib.Core.List.{[], _∷_}
 use mathlib.Core.Path.{_≡_, refl, sym, ap, _∙_}
-use Prim.Native.Nat.{ℕ, zero, suc, _+_, _*_}
+use Prim.Native.Nat.{ℕ, zero, suc, _*_}
 use lib.ListN.{length}
 use native.Mathlib.Nat.{zero-mul, mul-comm, mul-one}
 use native.Mathlib.Omega.{arith}

@@ -1,9 +1,9 @@
 -- The bytes of a number, written by parts: once over the widths of the parts.
-use mathlib.Core.List.{List, [], _∷_, _++_}
-use mathlib.Core.Path.{_≡_, refl, sym, ap, _∙_}
-use Prim.Native.Nat.{ℕ, zero, suc, _+_, _*_, _/_, _%_, _^_, _≤_, _<_}
+use mathlib.Core.List.{List, _∷_, _++_}
+use mathlib.Core.Path.{_≡_, refl, ap, _∙_}
+use Prim.Native.Nat.{ℕ, zero, suc, _+_, _*_, _/_, _%_, _^_, _<_}
 use lib.Arith.{mod-mul}
-use lib.ListN.{length, set}
+use lib.ListN.{set}
 use lib.Seq.{sets}
 use native.Mathlib.Nat.{div-div-eq-div-mul, pow-succ', mul-comm, pow-zero, zero-add, suc-add}
 use native.Mathlib.Omega.{arith}

@@ -1,7 +1,7 @@
 -- Points by the loop that writes their elements: what it asks, and what it wrote.
 use mathlib.Core.Bool.{Bool, true, false}
 use mathlib.Core.List.{List, [], _∷_}
-use mathlib.Core.Path.{_≡_, refl, ap, _∙_}
+use mathlib.Core.Path.{_≡_, ap, _∙_}
 use Prim.Native.Nat.{ℕ, _+_, _*_, _≤_}
 use lib.Seq.{sets}
 use native.Mathlib.Omega.{arith}

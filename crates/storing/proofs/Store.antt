@@ -2,9 +2,9 @@
 -- written onto it as it came. Once over the widths of what a turn writes.
 use mathlib.Core.List.{List, [], _∷_, _++_, append-assoc, append-nil}
 use mathlib.Core.Path.{_≡_, refl, sym, ap, _∙_}
-use Prim.Native.Nat.{ℕ, zero, suc, _+_, _-_, _*_, _%_, _^_, _≤_, _<_}
+use Prim.Native.Nat.{ℕ, suc, _+_, _-_, _*_, _%_, _^_, _≤_, _<_}
 use lib.ListN.{length, getD, take, drop, set, replicate, length-replicate, getD-replicate, length-append, length-drop}
-use lib.Seq.{sets, take-all, drop-drop, drop-nil, drop-cons, length-sets}
+use lib.Seq.{sets, take-all, drop-drop, drop-cons, length-sets}
 use native.Mathlib.Nat.{mul-suc, mul-zero, add-zero, add-assoc, zero-add, one-mul}
 use native.Mathlib.Omega.{arith}
 use Rattle.fields.proofs.Put.{sets-append, repeat-cons, repeat-none, Copying, copy-turn, copy-done}
@@ -67,22 +67,16 @@ module _ (k : ℕ) (xs : List ℕ) (at n w : ℕ) (out₀ : List ℕ) where
       let one : total (k ∷ []) ≡ k = omega arith in
       store-turn (k ∷ []) xs at n w out₀ i out out′ g h (omega arith) (rw (one, one-mul, there, append-nil, ← low) e)
 
--- the low bytes of three numbers, one after another
-store-three : (a b k : ℕ) (out r : List ℕ) (o x y z : ℕ)
-    → sets (sets (sets out o (bytes a (x % 256 ^ a))) (o + a) (bytes b (y % 256 ^ b))) (o + (a + b)) (bytes k (z % 256 ^ k)) ≡ sets out o (storedAll (a ∷ b ∷ k ∷ []) (x ∷ y ∷ z ∷ r))
-store-three a b k out r o x y z =
-    rw (bytes-low a x, bytes-low b y, bytes-low k z, append-nil, sets-append, sets-append, length-bytes, length-bytes, ← add-assoc) refl
-
--- a point whose height is wider than its other elements
-pub store-point : (out xs : List ℕ) (o p : ℕ) → p + 3 ≤ length xs
-    → sets (sets (sets out o (bytes 2 (getD xs p 0 % 65536))) (o + 2) (bytes 2 (getD xs (p + 1) 0 % 65536))) (o + 4) (bytes 4 (getD xs (p + 2) 0 % 4294967296))
-    ≡ sets out o (storedAll (2 ∷ 2 ∷ 4 ∷ []) (drop p xs))
-store-point out xs o p h =
+-- three elements, one after another, each its low bytes
+pub store-three : (a b k : ℕ) (xs : List ℕ) (o p : ℕ) (out₀ out₁ out₂ out₃ : List ℕ) → p + 3 ≤ length xs → out₁ ≡ sets out₀ o (bytes a (getD xs p 0 % 256 ^ a))
+    → out₂ ≡ sets out₁ (o + a) (bytes b (getD xs (p + 1) 0 % 256 ^ b)) → out₃ ≡ sets out₂ (o + (a + b)) (bytes k (getD xs (p + 2) 0 % 256 ^ k))
+    → out₃ ≡ sets out₀ o (storedAll (a ∷ b ∷ k ∷ []) (drop p xs))
+store-three a b k xs o p out₀ out₁ out₂ out₃ h e₁ e₂ e₃ =
     let p1 : p + 1 ≡ suc p = omega arith in
     let p2 : p + 2 ≡ suc (suc p) = omega arith in
     let there : drop p xs ≡ getD xs p 0 ∷ getD xs (p + 1) 0 ∷ getD xs (p + 2) 0 ∷ drop (suc (suc (suc p))) xs =
     rw (p1, p2, drop-cons xs p 0 (omega arith), drop-cons xs (suc p) 0 (omega arith), drop-cons xs (suc (suc p)) 0 (omega arith)) refl in
-    store-three 2 2 4 out (drop (suc (suc (suc p))) xs) o _ _ _ ∙ ap (λ l. sets out o (storedAll (2 ∷ 2 ∷ 4 ∷ []) l)) (sym there)
+    rw (there, append-nil, sets-append, sets-append, length-bytes, length-bytes, e₃, e₂, e₁, bytes-low a (getD xs p 0), bytes-low b (getD xs (p + 1) 0), bytes-low k (getD xs (p + 2) 0), ← add-assoc) refl
 
 -- zeros are copied from a list of them
 module _ (n w : ℕ) (out₀ : List ℕ) where
