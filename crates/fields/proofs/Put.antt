@@ -30,11 +30,11 @@ numbers-append [] ws xs = refl
 numbers-append (u ∷ v) ws xs =
     ap (λ l. number u xs ∷ l) (numbers-append v ws (drop u xs) ∙ ap (λ l. numbers v (drop u xs) ++ numbers ws l) (drop-drop (total v) u xs))
 
-repeat-cons : (n : ℕ) (ws : List ℕ) → 0 < n → repeat n ws ≡ ws ++ repeat (n - 1) ws
+pub repeat-cons : (n : ℕ) (ws : List ℕ) → 0 < n → repeat n ws ≡ ws ++ repeat (n - 1) ws
 repeat-cons zero ws h = absurd (omega arith)
 repeat-cons (suc n) ws h = let e : suc n - 1 ≡ n = omega arith in rw e
 
-repeat-none : (n : ℕ) (ws : List ℕ) → n ≤ 0 → repeat n ws ≡ []
+pub repeat-none : (n : ℕ) (ws : List ℕ) → n ≤ 0 → repeat n ws ≡ []
 repeat-none zero ws h = refl
 repeat-none (suc n) ws h = absurd (omega arith)
 
