@@ -1,7 +1,7 @@
 -- Pieces one after another: what an emitter asks of the next, and what it has done. One invariant serves every loop.
 use mathlib.Core.List.{List, [], _∷_, _++_}
-use mathlib.Core.Path.{_≡_, refl, ap, ap₂, sym, subst, _∙_}
-use Prim.Native.Nat.{ℕ, zero, suc, _+_, _-_, _≤_, _<_}
+use mathlib.Core.Path.{_≡_, refl, ap, sym, subst, _∙_}
+use Prim.Native.Nat.{ℕ, _+_, _-_, _≤_, _<_}
 use lib.ListN.{length, length-append}
 use lib.Seq.{sets, length-sets}
 use native.Mathlib.Nat.{add-assoc, add-zero}
@@ -10,9 +10,9 @@ use Rattle.emitting.specs.Cursors.{ahead, moved}
 use Rattle.emitting.specs.Pieces.{Room, Piece, Emitted, Counted, pairTable, Both, pairBytes}
 use Rattle.emitting.specs.declared.cursors.Cursor.{Cursor}
 use Rattle.fields.proofs.Put.{sets-append}
-use Rattle.layout.specs.Bytes.{All, flat}
+use Rattle.layout.specs.Bytes.{flat}
 use Rattle.layout.specs.Sheet.{Table}
-use Rattle.layout.specs.Writing.Tables.{table, join, joined, Taken, taken}
+use Rattle.layout.specs.Writing.Tables.{table, join, joined, Taken}
 use Rattle.laws.proofs.Writing.Takes.{join-assoc}
 use Rattle.laws.proofs.Writing.Turns.{rest-at}
 use Rattle.emitting.proofs.Unique.{Unique, list-unique, pair-unique}

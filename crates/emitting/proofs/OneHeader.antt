@@ -1,13 +1,11 @@
 -- The header of a record in pass 2, over plain variables: what the code asks and what it has done.
-use mathlib.Core.Bool.{Bool, true, false}
-use mathlib.Core.List.{List, [], _∷_, _++_}
+use mathlib.Core.List.{List, _++_}
 use mathlib.Core.Path.{_≡_, refl, ap, sym, _∙_}
 use Prim.Native.Nat.{ℕ, _+_, _-_, _/_, _%_, _≤_, _<_, _^_}
 use borrow.Author.Tests.{le-leb, lt-leb}
-use lib.ListN.{length, drop, getD}
+use lib.ListN.{drop, getD}
 use lib.Seq.{sets, getD-drop}
 use native.Mathlib.Nat.{add-zero}
-use native.Mathlib.Omega.{arith}
 use Rattle.emitting.specs.Records.{lengthsOf, namesOf, marksOf, countsOf, headerOf, RowFits}
 use Rattle.layout.specs.Bytes.{bytes}
 use Rattle.layout.specs.Shared.Mark.{pointsOf}

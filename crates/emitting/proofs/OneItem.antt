@@ -6,8 +6,7 @@ use Prim.Native.Nat.{ℕ, _+_, _≤_, _<_, _^_}
 use borrow.Author.Tests.{ne-eqb}
 use lib.Dec.{eqb}
 use lib.ListN.{length, take, drop, getD, length-append}
-use lib.Seq.{sets, take-at, length-sets}
-use native.Mathlib.Nat.{add-zero}
+use lib.Seq.{sets, take-at}
 use native.Mathlib.Omega.{arith}
 use Rattle.emitting.specs.Cursors.{tableOf, moved}
 use Rattle.emitting.specs.Pieces.{Piece, Emitted}
@@ -18,7 +17,7 @@ use Rattle.layout.specs.Layout.Fine.{FineItem}
 use Rattle.layout.specs.Shared.Row
 use Rattle.layout.specs.Shared.Types.{narrow, wide, integer, double, unknown, kindOf, lengthBytes}
 use Rattle.layout.specs.Sheet.{Item, Table}
-use Rattle.layout.specs.Writing.Tables.{join, flattenItem}
+use Rattle.layout.specs.Writing.Tables.{flattenItem}
 use Rattle.laws.proofs.Base.Numbers.{length-bytes}
 use Rattle.laws.proofs.Writing.Sizes.{item-length}
 use Rattle.emitting.proofs.Moves.{sets-twice, emitted}

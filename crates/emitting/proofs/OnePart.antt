@@ -5,21 +5,20 @@ use mathlib.Core.Path.{_≡_, refl, ap, ap₂, sym, _∙_}
 use Prim.Native.Nat.{ℕ, _+_, _*_, _/_, _%_, _≤_, _<_, _^_}
 use lib.ListN.{length, take, drop, getD, length-append, length-drop}
 use lib.Seq.{sets, take-at, length-sets, length-take-le}
-use native.Mathlib.Nat.{add-assoc}
 use native.Mathlib.Omega.{arith}
-use Rattle.emitting.specs.Cursors.{tableOf, ahead, moved}
+use Rattle.emitting.specs.Cursors.{tableOf, moved}
 use Rattle.emitting.specs.Parts.{PartFits, partBytes, subobjectBytes}
-use Rattle.emitting.specs.Pieces.{Room, Piece, Emitted}
+use Rattle.emitting.specs.Pieces.{Piece, Emitted}
 use Rattle.emitting.specs.declared.cursors.Cursor.{Cursor}
 use Rattle.fields.specs.Shapes.{dimensions, widthsOf, pointOf}
 use Rattle.fields.specs.declared.shapes.Shape.{Shape}
-use Rattle.layout.specs.Bytes.{bytes, FitAll, repeat, storedAll, total}
+use Rattle.layout.specs.Bytes.{bytes, FitAll, repeat, storedAll}
 use Rattle.layout.specs.Layout.Encode.{encodeText}
 use Rattle.layout.specs.Layout.Fine.{FineLabel}
 use Rattle.layout.specs.Shared.Row
 use Rattle.layout.specs.Shared.Widths.{elementWidths, point-is-elements}
 use Rattle.layout.specs.Sheet.{Part, Table}
-use Rattle.layout.specs.Writing.Tables.{join, flattenPart}
+use Rattle.layout.specs.Writing.Tables.{flattenPart}
 use Rattle.laws.proofs.Base.Numbers.{length-stored, total-repeat}
 use Rattle.emitting.proofs.Moves.{sets-twice, emitted}
 use Rattle.emitting.proofs.OneHeader.{nth-first, nth-at}

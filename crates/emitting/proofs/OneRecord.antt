@@ -22,7 +22,6 @@ use Rattle.layout.specs.Shared.Row
 use Rattle.layout.specs.Sheet.{Item, Part, Reference, Record, Table}
 use Rattle.layout.specs.Writing.Tables.{table, join, joined, flattenHeader, flattenPart, flattenItem, flattenRecord}
 use Rattle.laws.proofs.Encoding.Lengths.{length-header, length-record}
-use Rattle.laws.proofs.Writing.Parts.{FineFirst}
 use Rattle.laws.proofs.Writing.Records.{fine-near, near-first, bytes-of-number, record-numbers}
 use Rattle.laws.proofs.Writing.Takes.{join-assoc, table-path}
 use Rattle.emitting.proofs.Moves.{moved-twice, room-second, ahead-moved, emitted, pair-first, pair-second, pair-done}

@@ -1,7 +1,7 @@
 -- What stands in a table at a place is one piece only: two that are flattened there are the same.
 use mathlib.Core.List.{List, [], _∷_}
-use mathlib.Core.Path.{_≡_, refl, ap, ap₂, sym, _∙_}
-use Prim.Native.Nat.{ℕ, zero, suc, _*_}
+use mathlib.Core.Path.{_≡_, ap, sym, _∙_}
+use Prim.Native.Nat.{ℕ, _*_}
 use lib.ListN.{length, take, drop}
 use lib.Seq.{take-at, drop-at, take-append-seam, drop-append-seam}
 use native.Mathlib.Omega.{arith}

@@ -1,6 +1,6 @@
 -- The whole of an accepted table: what the rows' emitter is asked, and that it has written whatever records the table is of.
 use mathlib.Core.List.{List, [], _∷_, append-nil}
-use mathlib.Core.Path.{_≡_, refl, ap, sym, _∙_}
+use mathlib.Core.Path.{_≡_, ap, sym, _∙_}
 use Prim.Native.Nat.{ℕ, _≤_}
 use lib.ListN.{length, length-append}
 use lib.Seq.{sets}

@@ -1,6 +1,6 @@
 -- The header of a record, from the numbers of its row in the table.
 use mathlib.Core.List.{List, _++_}
-use Prim.Native.Nat.{ℕ, _+_, _-_, _≤_, _<_, _^_}
+use Prim.Native.Nat.{ℕ, _+_, _-_, _≤_}
 use Rattle.layout.specs.Bytes.{stored}
 use Rattle.layout.specs.Fields.Header
 use Rattle.layout.specs.Layout.Fine.{Fits}

@@ -22,9 +22,12 @@ fn put_names(table: &[u64], at: usize, out: &mut [u8], w: usize)
     requires { ⌜ (at + 8 ≤ length (now table)) × RowFits (drop at (now table)) × (w + 8 ≤ length (now out)) ⌝ }
     ensures { λ _. ⌜ now (out .exit) ≡ sets (now (out .entry)) w (namesOf (drop at (now (table .entry)))) ⌝ }
 {
-    numbers::put_u32(out, w, table[at] as u32);
-    numbers::put_u16(out, w + 4, table[at + 1] as u16);
-    numbers::put_u16(out, w + 6, table[at + 2] as u16);
+    let code = table[at];
+    let in_group = table[at + 1];
+    let group = table[at + 2];
+    numbers::put_u32(out, w, code as u32);
+    numbers::put_u16(out, w + 4, in_group as u16);
+    numbers::put_u16(out, w + 6, group as u16);
 }
 
 // "+20 to +22 reference bytes; +23 generalisation; +24 a word"

@@ -76,8 +76,10 @@ pub fn emit_subobject(
     let at = c.number;
     let w = c.out;
     let count = table[at];
-    numbers::put_u16(out, w, (count / 65536) as u16);
-    numbers::put_u16(out, w + 2, (count % 65536) as u16);
+    let n1 = (count / 65536) as u16;
+    let n2 = (count % 65536) as u16;
+    numbers::put_u16(out, w, n1);
+    numbers::put_u16(out, w + 2, n2);
     let d = Cursor {
         number: at,
         element: c.element,

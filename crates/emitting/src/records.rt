@@ -45,32 +45,22 @@ pub fn emit_record(
     let at = c.number;
     let w = c.out + 32;
     let s = shape_at(table, at);
-    let d = parts::emit_metric(
-        table,
-        elements,
-        bytes,
-        s,
-        table[at + 6] as usize - 1,
-        Cursor {
-            number: at + 8,
-            element: c.element,
-            byte: c.byte,
-            out: w,
-        },
-        out,
-    );
-    let e = items::emit_items(
-        table,
-        bytes,
-        table[at + 7] as usize,
-        Cursor {
-            number: d.number,
-            element: 0,
-            byte: d.byte,
-            out: d.out,
-        },
-        out,
-    );
+    let later = table[at + 6] as usize - 1;
+    let n = table[at + 7] as usize;
+    let first = Cursor {
+        number: at + 8,
+        element: c.element,
+        byte: c.byte,
+        out: w,
+    };
+    let d = parts::emit_metric(table, elements, bytes, s, later, first, out);
+    let after = Cursor {
+        number: d.number,
+        element: 0,
+        byte: d.byte,
+        out: d.out,
+    };
+    let e = items::emit_items(table, bytes, n, after, out);
     headers::put_header(table, at, d.out - w, e.out - d.out, out, c.out);
     Cursor {
         number: e.number,

@@ -4,7 +4,7 @@ use Rattle.emitting.proofs.headers.put_lengths.Statement.{statement}
 use Rattle.emitting.proofs.headers.put_lengths.Tie as tie
 
 returns : tie.Need-returns
-returns c = lengths-wrote _ _ _ _ _ _ _ (c .before .before .before .before .before .before .before .before .before .before .put-u32 .ensures) (c .before .before .before .before .before .before .put-u322 .ensures) (c .before .before .put-u323 .ensures)
+returns c = lengths-wrote (c .before .before .before .before .before .before .before .before .before .before .before .before .before .args .out .now) _ _ _ (c .before .before .before .before .before .before .before .before .before .before .before .before .before .args .w) (c .before .before .before .before .before .before .before .before .before .before .before .before .before .args .metric) (c .before .before .before .before .before .before .before .before .before .before .before .before .before .args .semantics) (c .before .before .before .before .before .before .before .before .before .before .put-u32 .ensures) (c .before .before .before .before .before .before .put-u322 .ensures) (c .before .before .put-u323 .ensures)
 
 pub put-lengths-spec : {M : Type 1} → statement M
 put-lengths-spec =

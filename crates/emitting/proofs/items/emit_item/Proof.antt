@@ -1,6 +1,5 @@
 use Rattle.emitting.proofs.OneItem.{item-asks, item-did}
 use native.Mathlib.Omega.{arith}
-use lib.Seq.{length-sets}
 use borrow.Author.Needs.{needs}
 use Rattle.emitting.proofs.items.emit_item.Statement.{statement}
 use Rattle.emitting.proofs.items.emit_item.Tie as tie

@@ -8,8 +8,8 @@ use Rattle.emitting.proofs.parts.emit_subobject.Tie as tie
 shared-slice-read-count : tie.Need-shared-slice-read-count
 shared-slice-read-count c = let a = part-some subobjectBytes (c .before .before .before .before .before .args .table .now) (c .before .before .before .before .before .args .elements .now) (c .before .before .before .before .before .args .bytes .now) (c .before .before .before .before .before .args .s) (c .before .before .before .before .before .args .c) _ (c .before .before .before .before .before .pre) in omega (arith, a)
 
-cast-put-u16 : tie.Need-cast-put-u16
-cast-put-u16 c = let a = part-some subobjectBytes (c .before .before .before .before .before .before .args .table .now) (c .before .before .before .before .before .before .args .elements .now) (c .before .before .before .before .before .before .args .bytes .now) (c .before .before .before .before .before .before .args .s) (c .before .before .before .before .before .before .args .c) _ (c .before .before .before .before .before .before .pre) in omega (arith, a)
+cast-n1 : tie.Need-cast-n1
+cast-n1 c = let a = part-some subobjectBytes (c .before .before .before .before .before .args .table .now) (c .before .before .before .before .before .args .elements .now) (c .before .before .before .before .before .args .bytes .now) (c .before .before .before .before .before .args .s) (c .before .before .before .before .before .args .c) _ (c .before .before .before .before .before .pre) in omega (arith, a)
 
 emit-part-requires : tie.Need-emit-part-requires
 emit-part-requires c κs = subobject-ask (c .before .before .before .before .before .before .before .before .before .before .before .before .before .before .args .table .now) (c .before .before .before .before .before .before .before .before .before .before .before .before .before .before .args .elements .now) (c .before .before .before .before .before .before .before .before .before .before .before .before .before .before .args .bytes .now) (c .before .before .before .before .before .before .before .before .before .before .before .before .before .before .args .s) (c .before .before .before .before .before .before .before .before .before .before .before .before .before .before .args .c) (c .before .before .before .before .before .before .before .before .before .before .before .before .before .before .args .out .now) (c .before .before .before .before .before .before .before .before .before .before .before .before .before .before .pre) _ _ (c .before .before .before .before .before .before .before .put-u16 .ensures) (c .before .before .before .put-u162 .ensures)
@@ -23,9 +23,9 @@ emit-subobject-spec =
     (tie.spec
     (λ c. search needs)
     shared-slice-read-count
-    cast-put-u16
-    (λ c κs. search needs)
+    cast-n1
     (λ c. search needs)
+    (λ c κs. search needs)
     (λ c. search needs)
     (λ c κs. search needs)
     (λ c. search needs)

@@ -1,6 +1,4 @@
-use mathlib.Core.Path.{refl, ap}
-use lib.ListN.{length}
-use lib.Seq.{sets}
+use mathlib.Core.Path.{refl}
 use Rattle.emitting.proofs.OnePart.{text-some, text-wrote, text-none}
 use native.Mathlib.Omega.{arith}
 use borrow.Author.Needs.{needs}
