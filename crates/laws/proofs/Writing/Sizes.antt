@@ -51,7 +51,7 @@ length-flat : {A : Type 0} (E : A → List ℕ) (F : A → Type 0) (f : A → �
 length-flat E F f g [] h = refl
 length-flat E F f g (a ∷ l) h = rw (length-append (E a) (flat E l), g a (h .0), length-flat E F f g l (h .1))
 
-item-length : (i : Item) → length (encodeItem i) ≡ itemBytes i
+pub item-length : (i : Item) → length (encodeItem i) ≡ itemBytes i
 unfolding encodeItem
 item-length i =
     simp (length-append, length-bytes) (omega arith)
