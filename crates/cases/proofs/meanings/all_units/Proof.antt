@@ -1,0 +1,26 @@
+use Prim.Native.Nat.{_≤_, _-_}
+use lib.ListN.{length}
+use borrow.Author.Needs.{needs}
+use Rattle.cases.proofs.meanings.all_units.Statement.{statement}
+use Rattle.cases.proofs.meanings.all_units.Tie as tie
+
+abbrev Inv-loop : tie.InvT-loop
+Inv-loop rows t₀ i₀ t i = i ≤ length rows
+
+abbrev μ-loop : tie.MeasureT-loop
+μ-loop rows t₀ i₀ t i = length rows - i
+
+pub all-units-spec : {M : Type 1} → statement M
+all-units-spec =
+    tie.close
+    (tie.spec
+    Inv-loop
+    μ-loop
+    (λ c. search needs)
+    (λ c. search needs)
+    (λ c. search needs)
+    (λ c κs. search needs)
+    (λ c. search needs)
+    (λ c. search needs)
+    (λ c. search needs)
+    (λ c. search needs))
