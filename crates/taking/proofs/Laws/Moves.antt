@@ -1,0 +1,122 @@
+-- Pieces taken at three places: where a piece ends, and the loop over pieces one after another.
+use mathlib.Core.Bool.{Bool, true, false, cond}
+use mathlib.Core.List.{List, [], _∷_}
+use mathlib.Core.Path.{_≡_, refl, sym, ap, _∙_, subst}
+use Prim.Native.Nat.{ℕ, zero, suc, _+_, _-_, _*_, _≤_, _<_}
+use borrow.Author.Tests.{le-leb, lt-leb, leb-true, leb-false}
+use lib.Dec.{leb}
+use lib.ListN.{length, drop, length-append, length-drop}
+use native.Mathlib.Nat.{add-zero, zero-add, add-assoc}
+use native.Mathlib.Omega.{arith}
+use Rattle.layout.specs.Answers.Calls.{andThen}
+use Rattle.layout.specs.Answers.Enums.{refusal}
+use Rattle.layout.specs.Bytes.{Bytes}
+use Rattle.layout.specs.Fields.{limit}
+use Rattle.layout.specs.Layout.Sizes.{sumBy}
+use Rattle.layout.specs.Sheet.{Table}
+use Rattle.layout.specs.Walk.{Walk, ends, Answer, given, refused, answer, _>>=_}
+use Rattle.layout.specs.Writing.Tables.{table, join, joined, Taken, taken, Taker, many}
+use Rattle.layout.specs.declared.Refusal.{Refusal}
+use Rattle.laws.proofs.Base.Lists.{all-drop}
+use Rattle.laws.proofs.Base.Walks.{answer-bind, bind-on}
+use Rattle.laws.proofs.Writing.Takes.{Takes, left-bytes}
+use Rattle.laws.proofs.Writing.Turns.{rest-at}
+use Rattle.taking.proofs.Laws.Steps.{refusedBy, bind-refused}
+use Rattle.taking.specs.Places.{capped, here, moved, movedOf, At}
+use Rattle.taking.specs.declared.places.Moved.{Moved}
+use Rattle.taking.specs.declared.places.Moved.the-variants.{Fine, Refused}
+use Rattle.taking.specs.declared.places.Places.{Places}
+
+-- lengths
+
+pub capped-low : (n : ℕ) → capped n ≤ limit + 1
+capped-low n = go (leb n limit) refl
+  where
+    go : (b : Bool) → leb n limit ≡ b → cond b n (limit + 1) ≤ limit + 1
+    go true e = let l = leb-true n limit e in omega (arith, l)
+    go false e = omega arith
+
+pub capped-is : (n : ℕ) → n ≤ limit + 1 → capped n ≡ n
+capped-is n h = go (leb n limit) refl
+  where
+    go : (b : Bool) → leb n limit ≡ b → cond b n (limit + 1) ≡ n
+    go true e = refl
+    go false e = let l = leb-false n limit e in omega (arith, l)
+
+pub capped-add : (a b : ℕ) → capped (capped a + b) ≡ capped (a + b)
+capped-add a b = go (leb a limit) refl
+  where
+    go : (c : Bool) → leb a limit ≡ c → capped (cond c a (limit + 1) + b) ≡ capped (a + b)
+    go true e = refl
+    go false e =
+        let l = leb-false a limit e in
+        rw (lt-leb (limit + 1 + b) limit (omega arith), lt-leb (a + b) limit (omega (arith, l)))
+
+-- two pieces one after another
+pub moved-moved : (p : Places) (a b : Table) (m n : ℕ) → moved (moved p a m) b n ≡ moved p (join a b) (m + n)
+moved-moved p a b m n =
+    rw (length-append (a .numbers) (b .numbers), length-append (a .elements) (b .elements), length-append (a .bytes) (b .bytes),
+    capped-add (p .length + m) n, add-assoc (p .length) m n, add-assoc (p .number), add-assoc (p .element), add-assoc (p .byte))
+
+-- no piece
+pub moved-none : (p : Places) → p .length ≤ limit + 1 → moved p (table [] [] []) 0 ≡ p
+moved-none p h = rw (add-zero (p .number), add-zero (p .element), add-zero (p .byte), add-zero (p .length), capped-is (p .length) h)
+
+-- what an answer is, by what the code made of it
+pub moved-stop : {A : Type 0} (F : A → Table) (B : A → ℕ) (p : Places) (v : Answer (Taken A)) (q : Refusal) → movedOf F B p v ≡ Refused q → v ≡ refusedBy q
+moved-stop F B p (given a) q e = let z : _≡_ {A = ℕ} 0 1 = cc in absurd (omega arith)
+moved-stop F B p (refused n i y) q e = let h : refusal n i y ≡ q = cc in rw (← h) refl
+
+moved-fine : {A : Type 0} (F : A → Table) (B : A → ℕ) (p : Places) (v : Answer (Taken A)) (q : Places) → movedOf F B p v ≡ Fine q
+    → (a : Taken A) × (v ≡ given a) × (moved p (F (a .value)) (B (a .value)) ≡ q)
+moved-fine F B p (given a) q e = (a, refl, cc)
+moved-fine F B p (refused n i y) q e = let z : _≡_ {A = ℕ} 0 1 = cc in absurd (omega arith)
+
+-- a piece that was taken at p, up to q
+pub record Went {A : Type 0} (v : Answer (Taken A)) (F : A → Table) (B : A → ℕ) (P : A → Type 0) (t : Table) (p q : Places) : Type 0 where
+  pub value : A
+  pub is : v ≡ given (taken value (here t q))
+  pub fine : P value
+  pub to : moved p (F value) (B value) ≡ q
+  pub at : At t q
+
+at-after : (t : Table) (p q : Places) (a r : Table) (size : ℕ) → At t p → join a r ≡ here t p → moved p a size ≡ q → At t q
+at-after t p q a r size h e m =
+    let n : length (drop (p .number) (t .numbers)) ≡ length (a .numbers) + length (r .numbers) =
+    ap (λ u. length (u .numbers)) (sym e) ∙ length-append (a .numbers) (r .numbers) in
+    let l : length (drop (p .element) (t .elements)) ≡ length (a .elements) + length (r .elements) =
+    ap (λ u. length (u .elements)) (sym e) ∙ length-append (a .elements) (r .elements) in
+    let b : length (drop (p .byte) (t .bytes)) ≡ length (a .bytes) + length (r .bytes) =
+    ap (λ u. length (u .bytes)) (sym e) ∙ length-append (a .bytes) (r .bytes) in
+    rw (← m) record {
+      number = omega (arith, h .number, n, length-drop (p .number) (t .numbers));
+      element = omega (arith, h .element, l, length-drop (p .element) (t .elements));
+      byte = omega (arith, h .byte, b, length-drop (p .byte) (t .bytes));
+      length = capped-low (p .length + size);
+      isBytes = h .isBytes;
+    }
+
+-- what is left of a pool of bytes is bytes
+pub bytes-here : (t : Table) (p : Places) → At t p → Bytes (here t p .bytes)
+bytes-here t p h = all-drop _ (p .byte) (t .bytes) (h .isBytes)
+
+module _ {A : Type 0} (al : ℕ → Bool) (k : ℕ) (r : Taker A) (F : A → Table) (P : A → Type 0) (Y : A → List ℕ) (T : Takes al k r F P Y)
+    (B : A → ℕ) (t : Table) (p : Places) (h : At t p) (room : p .number + k ≤ length (t .numbers)) (m : Moved)
+    (e : m ≡ movedOf F B p (answer al (r (p .number) (here t p)))) where
+  pub went : (q : Places) → m ≡ Fine q → Went (answer al (r (p .number) (here t p))) F B P t p q
+  went q i =
+      let v = moved-fine F B p (answer al (r (p .number) (here t p))) q (sym e ∙ i) in
+      let s = T .sound (p .number) (here t p) (omega (arith, room, length-drop (p .number) (t .numbers))) (bytes-here t p h) (v .0) (v .1) in
+      let E = F (v .0 .value) in
+      let left : v .0 .left ≡ here t q =
+      rest-at E (v .0 .left) t (p .number) (p .element) (p .byte) (s .2) ∙ ap (λ w. here t w) (v .2) in
+      record {
+        value = v .0 .value;
+        is = v .1 ∙ ap (λ w. given (taken (v .0 .value) w)) left;
+        fine = s .0;
+        to = v .2;
+        at = at-after t p q E (v .0 .left) (B (v .0 .value)) h (s .2) (v .2);
+      }
+
+  pub stopped : (q : Refusal) → m ≡ Refused q → answer al (r (p .number) (here t p)) ≡ refusedBy q
+  stopped q i = moved-stop F B p (answer al (r (p .number) (here t p))) q (sym e ∙ i)
