@@ -1,5 +1,6 @@
 -- Where pass 1 of the writer stands in a table and its two pools, and how a piece moves it on.
 use mathlib.Core.Bool.{cond}
+use mathlib.Core.List.{List}
 use mathlib.Core.Path.{_≡_}
 use Prim.Native.Nat.{ℕ, _+_, _≤_}
 use lib.Dec.{leb}
@@ -37,10 +38,9 @@ abbrev pub movedOf : {A : Type 0} → (A → Table) → (A → ℕ) → Places �
 movedOf F B p (given v) = Fine (moved p (F (v .value)) (B (v .value)))
 movedOf F B p (refused number place year) = Refused (refusal number place year)
 
--- places in the table t
-pub record At (t : Table) (p : Places) : Type 0 where
-  pub number : p .number ≤ length (t .numbers)
-  pub element : p .element ≤ length (t .elements)
-  pub byte : p .byte ≤ length (t .bytes)
+-- places in the numbers ns and the pool of bytes; elements are bounded apart, for items have none
+pub record At (ns pool : List ℕ) (p : Places) : Type 0 where
+  pub number : p .number ≤ length ns
+  pub byte : p .byte ≤ length pool
   pub length : p .length ≤ limit + 1
-  pub isBytes : Bytes (t .bytes)
+  pub isBytes : Bytes pool

@@ -6,11 +6,11 @@ ghost use Prim.Native.Nat.{ℕ, _+_, _*_, _≤_, _<_, _^_};
 ghost use lib.ListN.{length, drop};
 ghost use Rattle.fields.specs.Steps.{Next};
 ghost use Rattle.fields.specs.declared.steps.Step.the-variants.{Fine};
-ghost use Rattle.layout.specs.Layout.Sizes.{itemBytes};
+ghost use Rattle.layout.specs.Layout.Sizes.{sumBy, itemBytes};
 ghost use Rattle.layout.specs.Shared.Types.{kindOf};
 ghost use Rattle.layout.specs.Walk.{answer, upTo};
 ghost use Rattle.layout.specs.Writing.Items.{itemRowIn, itemRules, takeItem};
-ghost use Rattle.layout.specs.Writing.Tables.{table as tableOf, flattenItem};
+ghost use Rattle.layout.specs.Writing.Tables.{table as tableOf, joined, many, flattenItem};
 ghost use Rattle.taking.specs.Items.{rowOf, shapeOf, valueOf, headRules, sizeRules, valueRules, lengthOf};
 ghost use Rattle.taking.specs.Places.{here, movedOf, At};
 use crate::places::Moved;
@@ -218,4 +218,25 @@ pub fn take_item(table: &[u64], bytes: &[u8], p: Places, year: u32) -> Moved
         }),
         Step::Refused(r) => Moved::Refused(r),
     }
+}
+
+// So many items, one after another.
+pub fn take_items(table: &[u64], bytes: &[u8], p: Places, n: u64, year: u32) -> Moved
+    requires { ⌜ At (now table) (now bytes) p × (p .number + 4 * n ≤ length (now table)) ⌝ }
+    ensures { λ r. ⌜ ((es : List ℕ) → r ≡ movedOf (joined flattenItem) (sumBy itemBytes) p (answer (upTo year) (many n 4 takeItem (p .number) (here (tableOf (now (table .entry)) es (now (bytes .entry))) p)))) ⌝ }
+{
+    let mut left = n;
+    let mut at = p;
+    while 0 < left {
+        match take_item(table, bytes, at, year) {
+            Moved::Fine(q) => {
+                at = q;
+            }
+            Moved::Refused(r) => {
+                return Moved::Refused(r);
+            }
+        }
+        left -= 1;
+    }
+    Moved::Fine(at)
 }

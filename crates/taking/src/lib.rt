@@ -3,5 +3,6 @@
 //
 // Relied on: the definitions of `layout`, the laws of `laws`, and the leaf code of `fields`. Promised: `tables::take_table` answers what
 // the definitions say, for any three slices. What has a `requires` here is called by this crate only, after it has seen that it holds.
+pub mod elements;
 pub mod items;
 pub mod places;

@@ -14,7 +14,9 @@ use Rattle.fields.specs.Steps.{Next}
 use Rattle.fields.specs.declared.steps.Step.{Step}
 use Rattle.fields.specs.declared.steps.Step.the-variants as Stp
 use Rattle.layout.specs.Bytes.{zeros}
+use Rattle.layout.specs.Layout.Fine.{FineItem}
 use Rattle.layout.specs.Layout.Sizes.{itemBytes}
+use Rattle.layout.specs.Layout.Uses.{itemYears}
 use Rattle.layout.specs.Shared.Types.{Kind, narrow, wide, long, integer, double, unknown, kindOf, isLong, lengthBytes, valueLength, goodLength, closing, isClosed}
 use Rattle.layout.specs.Sheet.{Item, Table}
 use Rattle.layout.specs.Walk.{Walk, Check, must, given, answer, upTo, holds, checks, _>>_, ends}
@@ -22,9 +24,11 @@ use Rattle.layout.specs.Writing.Items.{ItemRow, itemRowIn, itemRules, takeItem}
 use Rattle.layout.specs.Writing.Tables.{table, Taken, taken, flattenItem}
 use Rattle.layout.specs.declared.Refusal.{Refusal}
 use Rattle.laws.proofs.Base.Lists.{both-true}
-use Rattle.taking.proofs.Laws.Steps.{step-holds, step-on, step-stop, then-on, then-stop}
+use Rattle.laws.proofs.Writing.Items.{item-takes, item-numbers}
+use Rattle.taking.proofs.Laws.Moves.{Went, went, stopped, number-after}
+use Rattle.taking.proofs.Laws.Steps.{refusedBy, step-holds, step-on, step-stop, then-on, then-stop}
 use Rattle.taking.specs.Items.{rowOf, valueOf, lengthOf, sizeRules, valueRules}
-use Rattle.taking.specs.Places.{capped, here, movedOf}
+use Rattle.taking.specs.Places.{capped, here, movedOf, At}
 use Rattle.taking.specs.declared.items.ItemNumbers.{ItemNumbers}
 use Rattle.taking.specs.declared.items.Value.{Value}
 use Rattle.taking.specs.declared.places.Moved.{Moved}
@@ -167,3 +171,16 @@ module _ (y : ℕ) (ns es pool : List ℕ) (p : Places) (a : ItemNumbers) (row :
       sym (ap (movedOf flattenItem itemBytes p)
       (ap (answer (upTo y)) (sym (with-row a (p .number) t row)) ∙ step-on y (p .number) (itemRules (rowOf a) (t .bytes)) r n _ e)
       ∙ rw (s, l, add-zero) refl)
+
+-- an item that was taken, and one that was refused, for the loop over items
+module _ (y : ℕ) (ns es pool : List ℕ) (p : Places) (h : At ns pool p) (room : p .number + 4 ≤ length ns) (m : Moved)
+    (e : (es : List ℕ) → m ≡ movedOf flattenItem itemBytes p (answer (upTo y) (takeItem (p .number) (here (table ns es pool) p)))) where
+  pub item-went : (q : Places) → m ≡ Fine q
+      → Went (answer (upTo y) (takeItem (p .number) (here (table ns es pool) p))) flattenItem itemBytes FineItem (table ns es pool) p q
+  item-went q i = went (upTo y) 4 takeItem flattenItem FineItem itemYears (item-takes (upTo y)) itemBytes (table ns es pool) p h room m (e es) q i
+
+  pub item-stopped : (q : Refusal) → m ≡ Refused q → answer (upTo y) (takeItem (p .number) (here (table ns es pool) p)) ≡ refusedBy q
+  item-stopped q i = stopped (upTo y) 4 takeItem flattenItem FineItem itemYears (item-takes (upTo y)) itemBytes (table ns es pool) p h room m (e es) q i
+
+  pub item-next : (q : Places) → m ≡ Fine q → q .number ≡ p .number + 4
+  item-next q i = number-after _ flattenItem itemBytes FineItem (table ns es pool) p q 4 item-numbers (item-went q i)

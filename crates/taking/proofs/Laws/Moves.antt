@@ -1,6 +1,6 @@
 -- Pieces taken at three places: where a piece ends, and the loop over pieces one after another.
 use mathlib.Core.Bool.{Bool, true, false, cond}
-use mathlib.Core.List.{List, [], _∷_}
+use mathlib.Core.List.{List, [], _∷_, _++_}
 use mathlib.Core.Path.{_≡_, refl, sym, ap, _∙_, subst}
 use Prim.Native.Nat.{ℕ, zero, suc, _+_, _-_, _*_, _≤_, _<_}
 use borrow.Author.Tests.{le-leb, lt-leb, leb-true, leb-false}
@@ -78,30 +78,34 @@ pub record Went {A : Type 0} (v : Answer (Taken A)) (F : A → Table) (B : A →
   pub is : v ≡ given (taken value (here t q))
   pub fine : P value
   pub to : moved p (F value) (B value) ≡ q
-  pub at : At t q
+  pub at : At (t .numbers) (t .bytes) q
+  pub element : p .element ≤ length (t .elements) → q .element ≤ length (t .elements)
 
-at-after : (t : Table) (p q : Places) (a r : Table) (size : ℕ) → At t p → join a r ≡ here t p → moved p a size ≡ q → At t q
+-- the three lists of what is left
+list-after : (n : ℕ) (l a r : List ℕ) → a ++ r ≡ drop n l → n ≤ length l → n + length a ≤ length l
+list-after n l a r e h = omega (arith, ap length e, length-append a r, length-drop n l)
+
+at-after : (t : Table) (p q : Places) (a r : Table) (size : ℕ) → At (t .numbers) (t .bytes) p → join a r ≡ here t p → moved p a size ≡ q
+    → At (t .numbers) (t .bytes) q
 at-after t p q a r size h e m =
-    let n : length (drop (p .number) (t .numbers)) ≡ length (a .numbers) + length (r .numbers) =
-    ap (λ u. length (u .numbers)) (sym e) ∙ length-append (a .numbers) (r .numbers) in
-    let l : length (drop (p .element) (t .elements)) ≡ length (a .elements) + length (r .elements) =
-    ap (λ u. length (u .elements)) (sym e) ∙ length-append (a .elements) (r .elements) in
-    let b : length (drop (p .byte) (t .bytes)) ≡ length (a .bytes) + length (r .bytes) =
-    ap (λ u. length (u .bytes)) (sym e) ∙ length-append (a .bytes) (r .bytes) in
-    rw (← m) record {
-      number = omega (arith, h .number, n, length-drop (p .number) (t .numbers));
-      element = omega (arith, h .element, l, length-drop (p .element) (t .elements));
-      byte = omega (arith, h .byte, b, length-drop (p .byte) (t .bytes));
+    rw (← m) (record {
+      number = list-after (p .number) (t .numbers) (a .numbers) (r .numbers) (ap (λ u. u .numbers) e) (h .number);
+      byte = list-after (p .byte) (t .bytes) (a .bytes) (r .bytes) (ap (λ u. u .bytes) e) (h .byte);
       length = capped-low (p .length + size);
       isBytes = h .isBytes;
-    }
+    })
+
+element-after : (t : Table) (p q : Places) (a r : Table) (size : ℕ) → join a r ≡ here t p → moved p a size ≡ q
+    → p .element ≤ length (t .elements) → q .element ≤ length (t .elements)
+element-after t p q a r size e m h =
+    rw (← m) (list-after (p .element) (t .elements) (a .elements) (r .elements) (ap (λ u. u .elements) e) h)
 
 -- what is left of a pool of bytes is bytes
-pub bytes-here : (t : Table) (p : Places) → At t p → Bytes (here t p .bytes)
+pub bytes-here : (t : Table) (p : Places) → At (t .numbers) (t .bytes) p → Bytes (here t p .bytes)
 bytes-here t p h = all-drop _ (p .byte) (t .bytes) (h .isBytes)
 
 module _ {A : Type 0} (al : ℕ → Bool) (k : ℕ) (r : Taker A) (F : A → Table) (P : A → Type 0) (Y : A → List ℕ) (T : Takes al k r F P Y)
-    (B : A → ℕ) (t : Table) (p : Places) (h : At t p) (room : p .number + k ≤ length (t .numbers)) (m : Moved)
+    (B : A → ℕ) (t : Table) (p : Places) (h : At (t .numbers) (t .bytes) p) (room : p .number + k ≤ length (t .numbers)) (m : Moved)
     (e : m ≡ movedOf F B p (answer al (r (p .number) (here t p)))) where
   pub went : (q : Places) → m ≡ Fine q → Went (answer al (r (p .number) (here t p))) F B P t p q
   went q i =
@@ -116,7 +120,63 @@ module _ {A : Type 0} (al : ℕ → Bool) (k : ℕ) (r : Taker A) (F : A → Tab
         fine = s .0;
         to = v .2;
         at = at-after t p q E (v .0 .left) (B (v .0 .value)) h (s .2) (v .2);
+        element = element-after t p q E (v .0 .left) (B (v .0 .value)) (s .2) (v .2);
       }
 
   pub stopped : (q : Refusal) → m ≡ Refused q → answer al (r (p .number) (here t p)) ≡ refusedBy q
   stopped q i = moved-stop F B p (answer al (r (p .number) (here t p))) q (sym e ∙ i)
+
+-- n pieces of k numbers each, taken one after another
+module _ {A : Type 0} (al : ℕ → Bool) (k : ℕ) (r : Taker A) (F : A → Table) (B : A → ℕ) (t : Table) where
+  -- what is still to be answered at p, with left of them to go: the same from turn to turn
+  abbrev pub Rest : ℕ → Places → Moved
+  Rest left p = movedOf (joined F) (sumBy B) p (answer al (many left k r (p .number) (here t p)))
+
+  rest-done : (p : Places) → p .length ≤ limit + 1 → Rest zero p ≡ Fine p
+  rest-done p h = ap Fine (moved-none p h)
+
+  rest-stop : (n : ℕ) (p : Places) (q : Refusal) → answer al (r (p .number) (here t p)) ≡ refusedBy q → Rest (suc n) p ≡ Refused q
+  rest-stop n p q e = ap (movedOf (joined F) (sumBy B) p) (bind-refused al (r (p .number) (here t p)) _ q e)
+
+  cons : (p q : Places) (a : A) → moved p (F a) (B a) ≡ q → (v : Answer (Taken (List A)))
+      → movedOf (joined F) (sumBy B) p (andThen v (λ more. given (taken (a ∷ more .value) (more .left)))) ≡ movedOf (joined F) (sumBy B) q v
+  cons p q a e (given more) =
+      ap Fine (sym (moved-moved p (F a) (joined F (more .value)) (B a) (sumBy B (more .value))) ∙ ap (λ u. moved u (joined F (more .value)) (sumBy B (more .value))) e)
+  cons p q a e (refused n i y) = refl
+
+  rest-turn : (P : A → Type 0) (n : ℕ) (p q : Places) → ((a : A) → length (F a .numbers) ≡ k) → Went (answer al (r (p .number) (here t p))) F B P t p q
+      → Rest (suc n) p ≡ Rest n q
+  rest-turn P n p q size w =
+      let a = w .value in
+      let next : p .number + k ≡ q .number = ap (λ j. p .number + j) (sym (size a)) ∙ ap (λ (u : Places). u .number) (w .to) in
+      ap (movedOf (joined F) (sumBy B) p)
+      (bind-on al (r (p .number) (here t p)) _ (taken a (here t q)) (w .is)
+      ∙ answer-bind al (many n k r (p .number + k) (here t q)) _)
+      ∙ cons p q a (w .to) (answer al (many n k r (p .number + k) (here t q)))
+      ∙ ap (λ i. movedOf (joined F) (sumBy B) q (answer al (many n k r i (here t q)))) next
+
+  -- with left of the n to go at p, the rest answers what the whole does at p₀
+  pub record Same (n : ℕ) (p₀ : Places) (left : ℕ) (p : Places) : Type 0 where
+    pub eq : Rest n p₀ ≡ Rest left p
+
+  pub same-start : (n : ℕ) (p : Places) → Same n p n p
+  same-start n p = record { eq = refl }
+
+  pub same-done : (n : ℕ) (p₀ : Places) (left : ℕ) (p : Places) → Same n p₀ left p → left ≤ 0 → p .length ≤ limit + 1 → Fine p ≡ Rest n p₀
+  same-done n p₀ zero p g h l = sym (g .eq ∙ rest-done p l)
+  same-done n p₀ (suc m) p g h l = absurd (omega arith)
+
+  pub same-stop : (n : ℕ) (p₀ : Places) (left : ℕ) (p : Places) → Same n p₀ left p → 0 < left → (q : Refusal)
+      → answer al (r (p .number) (here t p)) ≡ refusedBy q → Refused q ≡ Rest n p₀
+  same-stop n p₀ zero p g h q e = absurd (omega arith)
+  same-stop n p₀ (suc m) p g h q e = sym (g .eq ∙ rest-stop m p q e)
+
+  pub same-turn : (P : A → Type 0) (n : ℕ) (p₀ : Places) (left : ℕ) (p q : Places) → ((a : A) → length (F a .numbers) ≡ k) → Same n p₀ left p → 0 < left
+      → Went (answer al (r (p .number) (here t p))) F B P t p q → Same n p₀ (left - 1) q
+  same-turn P n p₀ zero p q size g h w = absurd (omega arith)
+  same-turn P n p₀ (suc m) p q size g h w = let e : suc m - 1 ≡ m = omega arith in rw e (record { eq = g .eq ∙ rest-turn P m p q size w })
+
+-- so much of the numbers is used
+pub number-after : {A : Type 0} (v : Answer (Taken A)) (F : A → Table) (B : A → ℕ) (P : A → Type 0) (t : Table) (p q : Places) (k : ℕ)
+    → ((a : A) → length (F a .numbers) ≡ k) → Went v F B P t p q → q .number ≡ p .number + k
+number-after v F B P t p q k size w = sym (ap (λ (u : Places). u .number) (w .to)) ∙ ap (λ j. p .number + j) (size (w .value))
