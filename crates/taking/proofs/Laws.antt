@@ -2,3 +2,5 @@
 pub mod Steps
 pub mod Moves
 pub mod Items
+pub mod Elements
+pub mod Parts

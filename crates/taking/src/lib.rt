@@ -5,4 +5,5 @@
 // the definitions say, for any three slices. What has a `requires` here is called by this crate only, after it has seen that it holds.
 pub mod elements;
 pub mod items;
+pub mod parts;
 pub mod places;
