@@ -1,3 +1,17 @@
+use Rattle.layout.specs.Walk.{answer, upTo}
+use Rattle.layout.specs.Writing.Tables.{table as tableOf}
+use Rattle.taking.specs.Parts.{poolWalk}
+use Rattle.taking.specs.Places.{here}
+use lib.ListN.{getD}
+use Prim.Native.Nat.{_+_}
+use mathlib.Core.Path.{ap, _∙_}
+use native.Mathlib.Omega.{arith}
+use denote.Ref.{now}
+use Rattle.layout.specs.Layout.Sizes.{partBytes}
+use Rattle.layout.specs.Shared.Row.{referenceOf}
+use Rattle.layout.specs.Writing.Parts.{firstRules}
+use Rattle.taking.proofs.Laws.Steps.{step-holds}
+use Rattle.taking.proofs.Laws.Parts.{part-stop, part-on, head-none, first-small}
 use borrow.Author.Needs.{needs}
 use Rattle.taking.proofs.parts.take_first.Statement.{statement}
 use Rattle.taking.proofs.parts.take_first.Tie as tie
@@ -36,7 +50,9 @@ enum-told c = search needs
 
 -- src/parts.rt:150:23
 take-pools-requires : tie.Need-take-pools-requires
-take-pools-requires c κs = ?
+take-pools-requires c κs =
+    let h = c .before .before .before .before .before .before .before .before .pre .0 in
+    (c .before .before .before .before .before .before .before .before .pre .1, h .byte, omega arith, h .length, first-small _ _ (step-holds _ _ _ (c .before .before .first-checks .result) (c .before .before .first-checks .ensures) (c .enum-told .given .1)), omega arith)
 
 -- src/parts.rt:151:23
 enum-known-r : tie.Need-enum-known-r
@@ -44,11 +60,13 @@ enum-known-r c = search needs
 
 -- src/parts.rt:134:1
 returns : tie.Need-returns
-returns c = ?
+returns c =
+    let v = answer (upTo (c .before .before .before .before .before .before .before .before .before .args .year)) (poolWalk (referenceOf (c .before .before .before .before .before .before .before .before .before .args .reference)) (getD (now (c .before .before .before .before .before .before .before .before .before .args .table)) (c .before .before .before .before .before .before .before .before .before .args .p .number) 0) (getD (now (c .before .before .before .before .before .before .before .before .before .args .table)) (c .before .before .before .before .before .before .before .before .before .args .p .number + 1) 0) (c .before .before .before .before .before .before .before .before .before .args .p .number) (here (tableOf (now (c .before .before .before .before .before .before .before .before .before .args .table)) (now (c .before .before .before .before .before .before .before .before .before .args .elements)) (now (c .before .before .before .before .before .before .before .before .before .args .bytes))) (c .before .before .before .before .before .before .before .before .before .args .p))) in
+    part-on (c .before .before .before .before .before .before .before .before .before .args .year) (now (c .before .before .before .before .before .before .before .before .before .args .table)) (now (c .before .before .before .before .before .before .before .before .before .args .elements)) (now (c .before .before .before .before .before .before .before .before .before .args .bytes)) (c .before .before .before .before .before .before .before .before .before .args .p) (referenceOf (c .before .before .before .before .before .before .before .before .before .args .reference)) (firstRules (c .before .before .before .before .before .before .before .before .before .args .word)) (partBytes (referenceOf (c .before .before .before .before .before .before .before .before .before .args .reference))) (c .before .before .before .first-checks .result) (c .before .before .before .first-checks .ensures) (c .before .enum-told .given .1) _ (c .take-pools .ensures (c .before .before .before .before .before .before .before .before .before .args .year) (now (c .before .before .before .before .before .before .before .before .before .args .table)) ∙ head-none (c .before .before .before .before .before .before .before .before .before .args .p) (referenceOf (c .before .before .before .before .before .before .before .before .before .args .reference)) v)
 
 -- src/parts.rt:134:1
 returns-2 : tie.Need-returns-2
-returns-2 c = ?
+returns-2 c = part-stop _ (now (c .before .before .before .before .before .before .before .before .before .args .table)) (now (c .before .before .before .before .before .before .before .before .before .args .elements)) (now (c .before .before .before .before .before .before .before .before .before .args .bytes)) (c .before .before .before .before .before .before .before .before .before .args .p) (referenceOf (c .before .before .before .before .before .before .before .before .before .args .reference)) (firstRules (c .before .before .before .before .before .before .before .before .before .args .word)) (partBytes (referenceOf (c .before .before .before .before .before .before .before .before .before .args .reference))) (c .before .before .before .first-checks .result) (c .before .before .before .first-checks .ensures) _ (c .before .r .given .1)
 
 pub take-first-spec : {M : Type 1} → statement M
 take-first-spec =
