@@ -4,3 +4,4 @@ pub mod Moves
 pub mod Items
 pub mod Elements
 pub mod Parts
+pub mod Rows

@@ -2,3 +2,5 @@
 pub mod Places
 pub mod Items
 pub mod Parts
+pub mod Rows
+pub mod Tables

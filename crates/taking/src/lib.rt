@@ -7,3 +7,5 @@ pub mod elements;
 pub mod items;
 pub mod parts;
 pub mod places;
+pub mod rows;
+pub mod tables;

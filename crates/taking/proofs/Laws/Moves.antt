@@ -77,6 +77,7 @@ pub record Went {A : Type 0} (v : Answer (Taken A)) (F : A → Table) (B : A →
   pub value : A
   pub is : v ≡ given (taken value (here t q))
   pub fine : P value
+  pub whole : join (F value) (here t q) ≡ here t p
   pub to : moved p (F value) (B value) ≡ q
   pub at : At (t .numbers) (t .bytes) q
   pub element : p .element ≤ length (t .elements) → q .element ≤ length (t .elements)
@@ -118,6 +119,7 @@ module _ {A : Type 0} (al : ℕ → Bool) (k : ℕ) (r : Taker A) (F : A → Tab
         value = v .0 .value;
         is = v .1 ∙ ap (λ w. given (taken (v .0 .value) w)) left;
         fine = s .0;
+        whole = ap (λ w. join E w) (sym left) ∙ s .2;
         to = v .2;
         at = at-after t p q E (v .0 .left) (B (v .0 .value)) h (s .2) (v .2);
         element = element-after t p q E (v .0 .left) (B (v .0 .value)) (s .2) (v .2);
