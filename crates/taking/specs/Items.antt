@@ -1,5 +1,4 @@
 -- An item's checks in three steps: what its code, type and scale byte say, how long its value is, and its closing zeros.
-use mathlib.Core.Bool.{Bool}
 use mathlib.Core.List.{List, [], _∷_, _++_}
 use mathlib.Core.Path.{_≡_, refl}
 use Prim.Native.Nat.{ℕ, _+_}
@@ -10,7 +9,7 @@ use Rattle.layout.specs.Refusals.{SEMANTIC, TABLE, TEXT}
 use Rattle.layout.specs.Shared.Row
 use Rattle.layout.specs.Shared.Types.{Kind, kindOf, isKnown, isLong, goodScale, lengthBytes, valueLength, goodLength, closing, isClosed}
 use Rattle.layout.specs.Walk.{Check, must, dated}
-use Rattle.layout.specs.Writing.Items.{ItemRow, itemRowIn, fitsField, itemRules}
+use Rattle.layout.specs.Writing.Items.{ItemRow, fitsField, itemRules}
 use Rattle.layout.specs.Years.{since, type-128}
 use Rattle.taking.specs.declared.items.ItemNumbers.{ItemNumbers}
 use Rattle.taking.specs.declared.items.Shape.{Shape}

@@ -1,7 +1,6 @@
 -- A part in two steps: the rules of its points, and its pools.
 use mathlib.Core.Bool.{_||_}
 use mathlib.Core.List.{List, [], _∷_, _++_}
-use mathlib.Core.Path.{_≡_, refl}
 use Prim.Native.Nat.{ℕ, _+_, _*_}
 use mathlib.Core.Bool.{cond}
 use lib.Dec.{eqb, leb, ltb}

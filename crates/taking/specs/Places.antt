@@ -1,7 +1,6 @@
 -- Where pass 1 of the writer stands in a table and its two pools, and how a piece moves it on.
 use mathlib.Core.Bool.{cond}
 use mathlib.Core.List.{List}
-use mathlib.Core.Path.{_≡_}
 use Prim.Native.Nat.{ℕ, _+_, _≤_}
 use lib.Dec.{leb}
 use lib.ListN.{length, drop}

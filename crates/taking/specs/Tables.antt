@@ -1,6 +1,5 @@
 -- What pass 1 of the writer answers of a table.
 use mathlib.Core.List.{List}
-use Prim.Native.Nat.{ℕ}
 use lib.ListN.{length}
 use Rattle.layout.specs.Answers.Enums.{refusal}
 use Rattle.layout.specs.Layout.Sizes.{sumBy, recordBytes}

@@ -1,6 +1,5 @@
 // The parts of a record: points and text length each, with elements and a text in the pools.
-ghost use mathlib.Core.Bool.{Bool, true, false};
-ghost use mathlib.Core.List.{List, [], _∷_};
+ghost use mathlib.Core.List.{List};
 ghost use mathlib.Core.Path.{_≡_};
 ghost use Prim.Native.Nat.{ℕ, _+_, _*_, _≤_, _<_, _^_};
 ghost use lib.ListN.{length, drop};
@@ -78,7 +77,14 @@ fn text_checks(s: Shape, size: u64, left: usize, place: usize) -> Step
 }
 
 // Both pools at p.
-fn pool_checks(elements: &[u64], bytes: &[u8], p: Places, s: Shape, points: usize, size: u64) -> Step
+fn pool_checks(
+    elements: &[u64],
+    bytes: &[u8],
+    p: Places,
+    s: Shape,
+    points: usize,
+    size: u64,
+) -> Step
     requires { ⌜ (p .element ≤ length (now elements)) × (p .byte ≤ length (now bytes)) × (p .number + 2 ≤ 18446744073709551616) × (points < 2 ^ 32) ⌝ }
     ensures { λ r. ⌜ ((y : ℕ) → Next Fine y (p .number) (poolsBy s points size (drop (p .element) (now (elements .entry))) (drop (p .byte) (now (bytes .entry)))) r) ⌝ }
 {

@@ -1,5 +1,4 @@
 // A record's row: eight numbers, then its parts and its items.
-ghost use mathlib.Core.List.{[], _∷_};
 ghost use mathlib.Core.Path.{_≡_};
 ghost use Prim.Native.Nat.{ℕ, _+_, _*_, _≤_, _<_};
 ghost use lib.Dec.{leb};
@@ -9,7 +8,7 @@ ghost use Rattle.fields.specs.declared.steps.Step.the-variants.{Fine};
 ghost use Rattle.layout.specs.Layout.Sizes.{recordBytes};
 ghost use Rattle.layout.specs.Shared.Reference.{referenceChecks};
 ghost use Rattle.layout.specs.Shared.Row.{rowSize, referenceOf};
-ghost use Rattle.layout.specs.Walk.{must, answer, upTo};
+ghost use Rattle.layout.specs.Walk.{answer, upTo};
 ghost use Rattle.layout.specs.Writing.Rows.{rowIn, nameRules, countRules, takeInside, rowWalk};
 ghost use Rattle.layout.specs.Writing.Tables.{table as tableOf, flattenRecord};
 ghost use Rattle.taking.specs.Places.{here, movedOf, At};
@@ -114,14 +113,7 @@ fn row_checks(a: Row, place: usize, left: usize, year: u32) -> Step
 }
 
 // The parts and items of a row that was let through, at the places after its eight numbers.
-fn take_inside(
-    table: &[u64],
-    elements: &[u64],
-    bytes: &[u8],
-    a: Row,
-    p: Places,
-    year: u32,
-) -> Moved
+fn take_inside(table: &[u64], elements: &[u64], bytes: &[u8], a: Row, p: Places, year: u32) -> Moved
     requires { ⌜ At (now table) (now bytes) p × (p .element ≤ length (now elements)) × (1 ≤ a .parts) × (p .number + (2 * a .parts + 4 * a .items) ≤ length (now table)) ⌝ }
     ensures { λ r. ⌜ r ≡ movedOf insideTable insideBytes p (answer (upTo year) (takeInside (rowOf a) (p .number) (here (tableOf (now (table .entry)) (now (elements .entry)) (now (bytes .entry))) p))) ⌝ }
 {

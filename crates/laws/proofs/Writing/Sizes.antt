@@ -7,9 +7,6 @@ use lib.ListN.{length, length-append}
 use native.Mathlib.Nat.{zero-mul, add-mul}
 use native.Mathlib.Omega.{arith}
 use Rattle.layout.specs.Bytes.{All, flat, storedAll, repeat, total}
-use Rattle.layout.specs.Fields.Header
-use Rattle.layout.specs.Fields.Item as ItemField
-use Rattle.layout.specs.Fields.Subobject
 use Rattle.layout.specs.Layout.Encode.{encodeItem, encodeText, encodePart, encodeSubobject, encodeMetric, encodeSemantics, encodeRecord}
 use Rattle.layout.specs.Layout.Encode.{encode}
 use Rattle.layout.specs.Layout.Fine.{FineItem, FinePart, FineSubobject, FineHead}
@@ -18,7 +15,6 @@ use Rattle.layout.specs.Reading.Sheets.{start}
 use Rattle.layout.specs.Shared.Mark.{takesMark}
 use Rattle.layout.specs.Shared.Reference.{elementSize, floating, threeDimensions, textInMetric}
 use Rattle.layout.specs.Shared.Row
-use Rattle.layout.specs.Shared.Types.{kindOf, lengthBytes}
 use Rattle.layout.specs.Shared.Widths.{widths, pointSize, point-is-elements}
 use Rattle.layout.specs.Sheet.{Item, Part, Reference, Record, Sheet, Table}
 use Rattle.layout.specs.Writing.Tables.{joined, flattenHeader, flattenPart, flattenItem, flattenRecord, flatten}

@@ -1,8 +1,8 @@
 -- The ways out of an item, over plain variables.
 use mathlib.Core.Bool.{Bool, true, false, cond, not, _||_, _&&_}
 use mathlib.Core.List.{List, [], _∷_}
-use mathlib.Core.Path.{_≡_, refl, sym, ap, _∙_, subst}
-use Prim.Native.Nat.{ℕ, zero, suc, _+_, _-_, _*_, _%_, _^_, _≤_, _<_}
+use mathlib.Core.Path.{_≡_, refl, sym, ap, _∙_}
+use Prim.Native.Nat.{ℕ, zero, suc, _+_, _-_, _%_, _≤_, _<_}
 use borrow.Author.Tests.{leb-true, ltb-true, eqb-true, ne-eqb}
 use lib.Dec.{eqb, leb, ltb}
 use lib.ListN.{length, take, drop, length-drop}
@@ -19,7 +19,7 @@ use Rattle.layout.specs.Layout.Sizes.{itemBytes}
 use Rattle.layout.specs.Layout.Uses.{itemYears}
 use Rattle.layout.specs.Shared.Types.{Kind, narrow, wide, long, integer, double, unknown, kindOf, isLong, lengthBytes, valueLength, goodLength, closing, isClosed}
 use Rattle.layout.specs.Sheet.{Item, Table}
-use Rattle.layout.specs.Walk.{Walk, Check, must, given, answer, upTo, holds, checks, _>>_, ends}
+use Rattle.layout.specs.Walk.{Walk, Check, must, answer, upTo, holds, checks, _>>_, ends}
 use Rattle.layout.specs.Writing.Items.{ItemRow, itemRowIn, itemRules, takeItem}
 use Rattle.layout.specs.Writing.Tables.{table, Taken, taken, flattenItem}
 use Rattle.layout.specs.declared.Refusal.{Refusal}

@@ -1,12 +1,12 @@
 -- Pieces taken at three places: where a piece ends, and the loop over pieces one after another.
 use mathlib.Core.Bool.{Bool, true, false, cond}
 use mathlib.Core.List.{List, [], _∷_, _++_}
-use mathlib.Core.Path.{_≡_, refl, sym, ap, _∙_, subst}
-use Prim.Native.Nat.{ℕ, zero, suc, _+_, _-_, _*_, _≤_, _<_}
-use borrow.Author.Tests.{le-leb, lt-leb, leb-true, leb-false}
+use mathlib.Core.Path.{_≡_, refl, sym, ap, _∙_}
+use Prim.Native.Nat.{ℕ, zero, suc, _+_, _-_, _≤_, _<_}
+use borrow.Author.Tests.{lt-leb, leb-true, leb-false}
 use lib.Dec.{leb}
 use lib.ListN.{length, drop, length-append, length-drop}
-use native.Mathlib.Nat.{add-zero, zero-add, add-assoc}
+use native.Mathlib.Nat.{add-zero, add-assoc}
 use native.Mathlib.Omega.{arith}
 use Rattle.layout.specs.Answers.Calls.{andThen}
 use Rattle.layout.specs.Answers.Enums.{refusal}
@@ -14,12 +14,12 @@ use Rattle.layout.specs.Bytes.{Bytes}
 use Rattle.layout.specs.Fields.{limit}
 use Rattle.layout.specs.Layout.Sizes.{sumBy}
 use Rattle.layout.specs.Sheet.{Table}
-use Rattle.layout.specs.Walk.{Walk, ends, Answer, given, refused, answer, _>>=_}
+use Rattle.layout.specs.Walk.{Answer, given, refused, answer}
 use Rattle.layout.specs.Writing.Tables.{table, join, joined, Taken, taken, Taker, many}
 use Rattle.layout.specs.declared.Refusal.{Refusal}
 use Rattle.laws.proofs.Base.Lists.{all-drop}
 use Rattle.laws.proofs.Base.Walks.{answer-bind, bind-on}
-use Rattle.laws.proofs.Writing.Takes.{Takes, left-bytes}
+use Rattle.laws.proofs.Writing.Takes.{Takes}
 use Rattle.laws.proofs.Writing.Turns.{rest-at}
 use Rattle.taking.proofs.Laws.Steps.{refusedBy, bind-refused}
 use Rattle.taking.specs.Places.{capped, here, moved, movedOf, At}
@@ -55,8 +55,16 @@ capped-add a b = go (leb a limit) refl
 -- two pieces one after another
 pub moved-moved : (p : Places) (a b : Table) (m n : ℕ) → moved (moved p a m) b n ≡ moved p (join a b) (m + n)
 moved-moved p a b m n =
-    rw (length-append (a .numbers) (b .numbers), length-append (a .elements) (b .elements), length-append (a .bytes) (b .bytes),
-    capped-add (p .length + m) n, add-assoc (p .length) m n, add-assoc (p .number), add-assoc (p .element), add-assoc (p .byte))
+    rw (
+      length-append (a .numbers) (b .numbers),
+      length-append (a .elements) (b .elements),
+      length-append (a .bytes) (b .bytes),
+      capped-add (p .length + m) n,
+      add-assoc (p .length) m n,
+      add-assoc (p .number),
+      add-assoc (p .element),
+      add-assoc (p .byte),
+    )
 
 -- no piece
 pub moved-none : (p : Places) → p .length ≤ limit + 1 → moved p (table [] [] []) 0 ≡ p

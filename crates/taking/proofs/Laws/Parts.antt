@@ -1,16 +1,16 @@
 -- The ways out of a part, over plain variables.
-use mathlib.Core.Bool.{Bool, true, false, cond, _||_}
+use mathlib.Core.Bool.{Bool, true, false}
 use mathlib.Core.List.{List, [], _∷_, _++_}
-use mathlib.Core.Path.{_≡_, refl, sym, ap, _∙_, subst}
-use Prim.Native.Nat.{ℕ, zero, suc, _+_, _-_, _*_, _^_, _≤_, _<_}
+use mathlib.Core.Path.{_≡_, refl, sym, ap, _∙_}
+use Prim.Native.Nat.{ℕ, _+_, _-_, _*_, _≤_, _<_}
 use borrow.Author.Tests.{leb-true, ltb-true}
-use lib.Dec.{eqb, leb, ltb}
+use lib.Dec.{leb}
 use lib.ListN.{length, getD, take, drop, length-drop}
 use lib.Seq.{length-take-le, getD-drop}
 use native.Mathlib.Nat.{add-zero, zero-add, mul-le-mul-left}
 use native.Mathlib.Omega.{arith}
 use Rattle.fields.proofs.Chain.{as-checks}
-use Rattle.fields.specs.Shapes.{shapeOf, dimensions, widthsOf, pointOf}
+use Rattle.fields.specs.Shapes.{shapeOf, dimensions, widthsOf}
 use Rattle.fields.specs.Steps.{Next}
 use Rattle.fields.specs.declared.shapes.Shape.{Shape}
 use Rattle.fields.specs.declared.steps.Step.{Step}
@@ -18,18 +18,17 @@ use Rattle.fields.specs.declared.steps.Step.the-variants as Stp
 use Rattle.layout.specs.Bytes.{repeat}
 use Rattle.layout.specs.Layout.Fine.{FineSubobject}
 use Rattle.layout.specs.Layout.Sizes.{partBytes, subobjectBytes}
-use Rattle.layout.specs.Shared.Reference.{elementSize, floating, threeDimensions, textInMetric}
-use Rattle.layout.specs.Shared.Row
-use Rattle.layout.specs.Shared.Widths.{elementWidths, widths}
+use Rattle.layout.specs.Shared.Reference.{elementSize, floating, threeDimensions}
+use Rattle.layout.specs.Shared.Widths.{elementWidths}
 use Rattle.layout.specs.Sheet.{Part, Reference, Table}
-use Rattle.layout.specs.Walk.{Walk, Answer, given, refused, answer, upTo, Check, must, holds, checks, _>>_, ends}
+use Rattle.layout.specs.Walk.{Answer, given, refused, answer, upTo, Check, must, holds, checks, _>>_, ends}
 use Rattle.layout.specs.Writing.Parts.{fitAll, elementCount, elementRules, textRules, firstRules, laterRules, takePart}
 use Rattle.layout.specs.Writing.Tables.{table, Taken, taken, flattenPart}
 use Rattle.layout.specs.declared.Refusal.{Refusal}
 use Rattle.laws.proofs.Writing.Parts.{subobject-takes, part-numbers}
 use Rattle.taking.proofs.Laws.Moves.{Went, went, stopped, number-after}
 use Rattle.taking.proofs.Laws.Steps.{refusedBy, checks-append, step-holds, step-on, step-stop, then-on, then-stop}
-use Rattle.taking.specs.Parts.{elementsBy, textBy, poolsBy, bytesBy, headed, poolWalk}
+use Rattle.taking.specs.Parts.{elementsBy, poolsBy, bytesBy, headed, poolWalk}
 use Rattle.taking.specs.Places.{capped, here, movedOf, At}
 use Rattle.taking.specs.declared.places.Moved.{Moved}
 use Rattle.taking.specs.declared.places.Moved.the-variants.{Fine, Refused}
@@ -148,9 +147,17 @@ module _ (y : ℕ) (ns es pool : List ℕ) (p : Places) (ref : Reference) (rules
       ∙ ap (movedOf flattenPart B p) (step-on y (p .number) (rules points) r n (poolWalk ref points size (p .number) at) e))
 
 -- the first part has no head of its own
-pub head-none : (p : Places) (r : Reference) (v : Answer (Taken Part)) → movedOf flattenPart (headed 0 r) p v ≡ movedOf flattenPart (partBytes r) p v
+head-none : (p : Places) (r : Reference) (v : Answer (Taken Part)) → movedOf flattenPart (headed 0 r) p v ≡ movedOf flattenPart (partBytes r) p v
 head-none p r (given a) = rw (zero-add (partBytes r (a .value))) refl
 head-none p r (refused n i y) = refl
+
+pub first-on : (y : ℕ) (ns es pool : List ℕ) (p : Places) (ref : Reference) (rules : ℕ → List Check) (r : Step)
+    → Next Stp.Fine y (p .number) (rules (getD ns (p .number) 0)) r → r ≡ Stp.Fine → (m : Moved)
+    → m ≡ movedOf flattenPart (headed 0 ref) p (answer (upTo y) (poolWalk ref (getD ns (p .number) 0) (getD ns (p .number + 1) 0) (p .number) (here (table ns es pool) p)))
+    → m ≡ movedOf flattenPart (partBytes ref) p (answer (upTo y) (takePart ref rules (p .number) (here (table ns es pool) p)))
+first-on y ns es pool p ref rules r n e m i =
+    let w = poolWalk ref (getD ns (p .number) 0) (getD ns (p .number + 1) 0) (p .number) (here (table ns es pool) p) in
+    part-on y ns es pool p ref rules (partBytes ref) r n e m (i ∙ head-none p ref (answer (upTo y) w))
 
 -- points that the rules let through have four bytes
 pub first-small : (word points : ℕ) → holds (firstRules word points) → points < 4294967296

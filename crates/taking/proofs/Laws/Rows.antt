@@ -1,8 +1,8 @@
 -- The ways out of a row, over plain variables.
-use mathlib.Core.Bool.{Bool, true, false, cond, _&&_}
+use mathlib.Core.Bool.{Bool, true, false}
 use mathlib.Core.List.{List, [], _∷_, _++_}
-use mathlib.Core.Path.{_≡_, refl, sym, ap, _∙_, subst}
-use Prim.Native.Nat.{ℕ, zero, suc, _+_, _-_, _*_, _/_, _≤_, _<_}
+use mathlib.Core.Path.{_≡_, refl, sym, ap, _∙_}
+use Prim.Native.Nat.{ℕ, _+_, _-_, _*_, _/_, _≤_, _<_}
 use borrow.Author.Tests.{le-leb, lt-leb, leb-true, leb-false}
 use lib.Dec.{leb}
 use lib.ListN.{length, getD, drop, length-drop}
@@ -15,9 +15,8 @@ use Rattle.fields.specs.declared.steps.Step.the-variants as Stp
 use Rattle.layout.specs.Answers.Calls.{andThen}
 use Rattle.layout.specs.Answers.Enums.{refusal}
 use Rattle.layout.specs.Bytes.{All, flat}
-use Rattle.layout.specs.Layout.Fine.{FineItem, FineSubobject}
+use Rattle.layout.specs.Layout.Fine.{FineSubobject}
 use Rattle.layout.specs.Layout.Sizes.{sumBy, itemBytes, partBytes, subobjectBytes, recordBytes}
-use Rattle.layout.specs.Layout.Uses.{recordYears}
 use Rattle.layout.specs.Shared.Mark.{takesMark}
 use Rattle.layout.specs.Shared.Reference.{referenceChecks}
 use Rattle.layout.specs.Shared.Row as Index
@@ -28,14 +27,13 @@ use Rattle.layout.specs.Writing.Parts.{firstRules, laterRules, takePart}
 use Rattle.layout.specs.Writing.Rows.{RecordRow, rowIn, roomRules, nameRules, countRules, rowRules, takeInside, rowWalk}
 use Rattle.layout.specs.Writing.Tables.{table, join, joined, Taken, taken, many, flattenHeader, flattenPart, flattenItem, flattenRecord}
 use Rattle.layout.specs.declared.Refusal.{Refusal}
-use Rattle.laws.proofs.Base.Chains.{fourChecks, four-then}
+use Rattle.laws.proofs.Base.Chains.{four-then}
 use Rattle.laws.proofs.Base.Lists.{both-true}
 use Rattle.laws.proofs.Base.Walks.{answer-bind, bind-on}
 use Rattle.laws.proofs.Writing.Parts.{FineFirst, firstYears, first-takes, subobject-takes, part-numbers}
-use Rattle.laws.proofs.Writing.Records.{NearRecord, record-takes}
 use Rattle.laws.proofs.Writing.Takes.{Takes, join-assoc, length-joined, many-takes}
 use Rattle.taking.proofs.Laws.Moves.{Went, went, stopped, number-after, moved-moved, moved-stop}
-use Rattle.taking.proofs.Laws.Steps.{refusedBy, bind-refused, checks-append, step-holds, step-on, step-stop}
+use Rattle.taking.proofs.Laws.Steps.{bind-refused, checks-append, step-holds, step-on, step-stop}
 use Rattle.taking.specs.Places.{capped, here, moved, movedOf, At}
 use Rattle.taking.specs.Rows.{rowOf, rowChecks, insideTable, insideBytes}
 use Rattle.taking.specs.declared.places.Moved.{Moved}

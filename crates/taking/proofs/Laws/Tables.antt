@@ -1,8 +1,8 @@
 -- The loop over the rows of a table: what a turn does, and its three ways out.
-use mathlib.Core.Bool.{Bool, true, false, cond, not, _&&_}
+use mathlib.Core.Bool.{Bool, true, false, not, _&&_}
 use mathlib.Core.List.{List, [], _∷_}
-use mathlib.Core.Path.{_≡_, refl, sym, ap, _∙_, subst}
-use Prim.Native.Nat.{ℕ, zero, suc, _+_, _-_, _≤_, _<_}
+use mathlib.Core.Path.{_≡_, refl, sym, ap, _∙_}
+use Prim.Native.Nat.{ℕ, suc, _+_, _≤_, _<_}
 use borrow.Author.Tests.{leb-true, leb-false}
 use lib.Dec.{leb}
 use lib.ListN.{length, getD, drop, length-drop, drop-of-length-le}
@@ -12,20 +12,17 @@ use native.Mathlib.Omega.{arith}
 use Rattle.layout.specs.Answers.Calls.{andThen}
 use Rattle.layout.specs.Answers.Enums.{refusal}
 use Rattle.layout.specs.Bytes.{Bytes, some}
-use Rattle.layout.specs.Fields.{limit}
 use Rattle.layout.specs.Layout.Sizes.{sumBy, recordBytes}
 use Rattle.layout.specs.Layout.Uses.{recordYears}
 use Rattle.layout.specs.Sheet.{Record, Table}
 use Rattle.layout.specs.Walk.{Answer, given, refused, answer, upTo, checks, _>>_, ends}
 use Rattle.layout.specs.Writing.Rows.{rowWalk, endRules, rowsWalk}
-use Rattle.layout.specs.Writing.Tables.{table, Taken, taken, flattenRecord}
+use Rattle.layout.specs.Writing.Tables.{table, flattenRecord}
 use Rattle.layout.specs.declared.Refusal.{Refusal}
-use Rattle.laws.proofs.Base.Lists.{both-true}
 use Rattle.laws.proofs.Writing.Records.{NearRecord, record-numbers, record-takes}
 use Rattle.laws.proofs.Writing.Rows.{record-grows, nextRow}
 use Rattle.laws.proofs.Writing.Turns.{turn, rowsAnswer, rows-start, rows-turn, rows-done}
 use Rattle.taking.proofs.Laws.Moves.{Went, went, stopped, bytes-here, capped-is, capped-add}
-use Rattle.taking.proofs.Laws.Steps.{refusedBy}
 use Rattle.taking.specs.Places.{capped, here, movedOf, At}
 use Rattle.taking.specs.Tables.{rowsOf}
 use Rattle.taking.specs.declared.places.Moved.{Moved}

@@ -1,4 +1,4 @@
-use mathlib.Core.Path.{_≡_, refl, sym, ap, _∙_}
+use mathlib.Core.Path.{refl, sym, ap, _∙_}
 use native.Mathlib.Omega.{arith}
 use denote.Ref.{now}
 use lib.ListN.{drop}
@@ -10,36 +10,19 @@ use Rattle.taking.proofs.Laws.Elements.{fit-any, widths-eight, widths-f
 use borrow.Author.Needs.{needs}
 use Rattle.taking.proofs.elements.fit.Statement.{statement}
 use Rattle.taking.proofs.elements.fit.Tie as tie
-use Rattle.taking.proofs.elements.fit.Reads as reads
-use Rattle.taking.proofs.elements.fit.Lts as lts
-use Rattle.taking.proofs.elements.fit_all.Reads as fit-all-reads
-use Rattle.taking.proofs.elements.fit_points.Reads as fit-points-reads
 
--- src/elements.rt:57:9
 returns : tie.Need-returns
 returns c = sym (ap (λ ws. fitAll ws (drop (c .before .before .before .args .at) (now (c .before .before .before .args .elements)))) (widths-eight (c .before .before .before .args .s .size) (c .before .before .before .args .s .float) (c .before .before .before .args .s .three) (c .if1 .taken) (c .before .before .before .args .n) (c .before .before .before .args .points) (c .before .before .before .pre .1)) ∙ fit-any (c .before .before .before .args .n) (c .before .before .before .args .at) (now (c .before .before .before .args .elements)) (c .before .before .before .pre .0) (λ i. omega (arith, c .before .before .shared-slice-known .given i)))
 
--- src/elements.rt:60:9
-fit-all-requires : tie.Need-fit-all-requires
-fit-all-requires c κs = search needs
-
--- src/elements.rt:60:9
 returns-2 : tie.Need-returns-2
 returns-2 c = c .fit-all .ensures 4 refl ∙ sym (ap (λ ws. fitAll ws (drop (c .before .before .before .before .before .before .args .at) (now (c .before .before .before .before .before .before .args .elements)))) (widths-four (c .before .before .before .before .before .before .args .s .size) (c .before .before .before .before .before .before .args .s .float) (c .before .before .before .before .before .before .args .s .three) (c .before .before .before .if1 .left) (c .before .if2 .taken) (c .before .before .before .before .before .before .args .n) (c .before .before .before .before .before .before .args .points) (c .before .before .before .before .before .before .pre .1)))
 
--- src/elements.rt:63:9
 fit-points-requires : tie.Need-fit-points-requires
 fit-points-requires c κs = let e = c .before .before .before .before .before .before .pre .1 ∙ ap (λ b. c .before .before .before .before .before .before .args .points * dimensions b) (c .if3 .taken) in omega (arith, e)
 
--- src/elements.rt:63:9
 returns-3 : tie.Need-returns-3
 returns-3 c = c .fit-points .ensures ∙ sym (ap (λ ws. fitAll (repeat (c .before .before .before .before .before .before .before .args .points) ws) (drop (c .before .before .before .before .before .before .before .args .at) (now (c .before .before .before .before .before .before .before .args .elements)))) (widths-mixed (c .before .before .before .before .before .before .before .args .s .size) (c .before .before .before .before .before .before .before .args .s .float) (c .before .before .before .before .before .before .before .args .s .three) (c .before .before .if2 .left) (c .before .if3 .taken)))
 
--- src/elements.rt:65:5
-fit-all-requires-2 : tie.Need-fit-all-requires-2
-fit-all-requires-2 c κs = search needs
-
--- src/elements.rt:52:1
 returns-4 : tie.Need-returns-4
 returns-4 c = c .fit-all2 .ensures 2 refl ∙ sym (ap (λ ws. fitAll ws (drop (c .before .before .before .before .before .before .before .args .at) (now (c .before .before .before .before .before .before .before .args .elements)))) (widths-two (c .before .before .before .before .before .before .before .args .s .size) (c .before .before .before .before .before .before .before .args .s .float) (c .before .before .before .before .before .before .before .args .s .three) (c .before .before .if2 .left) (c .before .if3 .left) (c .before .before .before .before .before .before .before .args .n) (c .before .before .before .before .before .before .before .args .points) (c .before .before .before .before .before .before .before .pre .1)))
 
@@ -48,9 +31,9 @@ fit-spec =
     tie.close
     (tie.spec
     returns
-    fit-all-requires
+    (λ c κs. search needs)
     returns-2
     fit-points-requires
     returns-3
-    fit-all-requires-2
+    (λ c κs. search needs)
     returns-4)

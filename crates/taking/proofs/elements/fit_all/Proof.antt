@@ -7,8 +7,6 @@ use Rattle.layout.specs.Writing.Parts.{fitAll}
 use Rattle.taking.proofs.Laws.Elements.{fit-wide, fit-next, fit-done}
 use Rattle.taking.proofs.elements.fit_all.Statement.{statement}
 use Rattle.taking.proofs.elements.fit_all.Tie as tie
-use Rattle.taking.proofs.elements.fit_all.Reads as reads
-use Rattle.taking.proofs.elements.fit_all.Lts as lts
 
 abbrev Inv-loop : tie.InvT-loop
 Inv-loop elements at n bound left₀ i₀ left i = (i + left ≤ length elements) × ((w : ℕ) → bound ≡ 256 ^ w → fitAll (replicate n w) (drop at elements) ≡ fitAll (replicate left w) (drop i elements))
@@ -16,39 +14,15 @@ Inv-loop elements at n bound left₀ i₀ left i = (i + left ≤ length elements
 abbrev μ-loop : tie.MeasureT-loop
 μ-loop elements at n bound left₀ i₀ left i = left
 
--- src/elements.rt:18:5
 loop-holds : tie.Need-loop-holds Inv-loop μ-loop
 loop-holds c = (omega arith, λ w e. refl)
 
--- src/elements.rt:19:21
-mul-if1 : tie.Need-mul-if1 Inv-loop μ-loop
-mul-if1 c = omega arith
-
--- src/elements.rt:19:21
-shared-slice-read-if1 : tie.Need-shared-slice-read-if1 Inv-loop μ-loop
-shared-slice-read-if1 c = omega arith
-
--- src/elements.rt:20:13
 returns : tie.Need-returns Inv-loop μ-loop
 returns c = λ w e. sym (c .before .before .before .loop .inv .1 w e ∙ fit-wide w (now (c .before .before .before .before .args .elements)) (c .before .before .before .loop .i) (omega arith) (c .before .before .before .loop .left) (omega arith) (omega (arith, e)))
 
--- src/elements.rt:22:9
-add-i : tie.Need-add-i Inv-loop μ-loop
-add-i c = omega arith
-
--- src/elements.rt:23:9
-sub-left : tie.Need-sub-left Inv-loop μ-loop
-sub-left c = omega arith
-
--- src/elements.rt:18:5
-loop-less : tie.Need-loop-less Inv-loop μ-loop
-loop-less c = omega arith
-
--- src/elements.rt:18:5
 loop-again : tie.Need-loop-again Inv-loop μ-loop
 loop-again c = (omega arith, λ w e. c .before .before .before .loop .inv .1 w e ∙ fit-next w (now (c .before .before .before .before .args .elements)) (c .before .before .before .loop .i) (omega arith) (c .before .before .before .loop .left) (omega arith) (omega (arith, e)))
 
--- src/elements.rt:12:1
 returns-2 : tie.Need-returns-2 Inv-loop μ-loop
 returns-2 c = λ w e. sym (c .before .loop .inv .1 w e ∙ fit-done w (c .before .loop .left) _ (omega arith))
 
@@ -59,11 +33,11 @@ fit-all-spec =
     Inv-loop
     μ-loop
     loop-holds
-    mul-if1
-    shared-slice-read-if1
+    (λ c. omega arith)
+    (λ c. omega arith)
     returns
-    add-i
-    sub-left
-    loop-less
+    (λ c. omega arith)
+    (λ c. omega arith)
+    (λ c. omega arith)
     loop-again
     returns-2)

@@ -3,54 +3,7 @@ use native.Mathlib.Nat.{add-zero}
 use borrow.Author.Needs.{needs}
 use Rattle.taking.proofs.items.read_item.Statement.{statement}
 use Rattle.taking.proofs.items.read_item.Tie as tie
-use Rattle.taking.proofs.items.read_item.Reads as reads
-use Rattle.taking.proofs.items.read_item.Lts as lts
 
--- src/items.rt:54:15
-mul-t3 : tie.Need-mul-t3
-mul-t3 c = search needs
-
--- src/items.rt:54:15
-shared-slice-read-t5 : tie.Need-shared-slice-read-t5
-shared-slice-read-t5 c = search needs
-
--- src/items.rt:55:18
-add-t6 : tie.Need-add-t6
-add-t6 c = search needs
-
--- src/items.rt:55:12
-mul-t7 : tie.Need-mul-t7
-mul-t7 c = search needs
-
--- src/items.rt:55:12
-shared-slice-read-t9 : tie.Need-shared-slice-read-t9
-shared-slice-read-t9 c = search needs
-
--- src/items.rt:56:22
-add-t10 : tie.Need-add-t10
-add-t10 c = search needs
-
--- src/items.rt:56:16
-mul-t11 : tie.Need-mul-t11
-mul-t11 c = search needs
-
--- src/items.rt:56:16
-shared-slice-read-t13 : tie.Need-shared-slice-read-t13
-shared-slice-read-t13 c = search needs
-
--- src/items.rt:57:21
-add-t14 : tie.Need-add-t14
-add-t14 c = search needs
-
--- src/items.rt:57:15
-mul-t15 : tie.Need-mul-t15
-mul-t15 c = search needs
-
--- src/items.rt:57:15
-shared-slice-read-t17 : tie.Need-shared-slice-read-t17
-shared-slice-read-t17 c = search needs
-
--- src/items.rt:49:1
 returns : tie.Need-returns
 returns c = simp (getD-drop, add-zero)
 
@@ -58,15 +11,15 @@ pub read-item-spec : {M : Type 1} → statement M
 read-item-spec =
     tie.close
     (tie.spec
-    mul-t3
-    shared-slice-read-t5
-    add-t6
-    mul-t7
-    shared-slice-read-t9
-    add-t10
-    mul-t11
-    shared-slice-read-t13
-    add-t14
-    mul-t15
-    shared-slice-read-t17
+    (λ c. search needs)
+    (λ c. search needs)
+    (λ c. search needs)
+    (λ c. search needs)
+    (λ c. search needs)
+    (λ c. search needs)
+    (λ c. search needs)
+    (λ c. search needs)
+    (λ c. search needs)
+    (λ c. search needs)
+    (λ c. search needs)
     returns)

@@ -14,9 +14,6 @@ use Rattle.taking.proofs.Laws.Items.{item-went, item-stopped, item-next
 use borrow.Author.Needs.{needs}
 use Rattle.taking.proofs.items.take_items.Statement.{statement}
 use Rattle.taking.proofs.items.take_items.Tie as tie
-use Rattle.taking.proofs.items.take_items.Reads as reads
-use Rattle.taking.proofs.items.take_items.Lts as lts
-use Rattle.taking.proofs.items.take_item.Reads as take-item-reads
 
 abbrev Inv-loop : tie.InvT-loop
 Inv-loop table bytes n year left₀ at₀ left at = At table bytes at × (at .number + 4 * left ≤ length table) × ((es : List ℕ) → Same (upTo year) 4 takeItem flattenItem itemBytes (tableOf table es bytes) n at₀ left at)
@@ -24,35 +21,15 @@ Inv-loop table bytes n year left₀ at₀ left at = At table bytes at × (at .nu
 abbrev μ-loop : tie.MeasureT-loop
 μ-loop table bytes n year left₀ at₀ left at = left
 
--- src/items.rt:230:5
 loop-holds : tie.Need-loop-holds Inv-loop μ-loop
 loop-holds c = (c .before .before .pre .0, c .before .before .pre .1, λ es. same-start _ _ _ _ _ _ _ _)
 
--- src/items.rt:231:15
 take-item-requires : tie.Need-take-item-requires Inv-loop μ-loop
 take-item-requires c κs = let h = c .before .loop .inv .0 in omega (arith, h)
 
--- src/items.rt:232:25
-enum-known-q : tie.Need-enum-known-q Inv-loop μ-loop
-enum-known-q c = search needs
-
--- src/items.rt:235:28
-enum-known-r : tie.Need-enum-known-r Inv-loop μ-loop
-enum-known-r c = search needs
-
--- src/items.rt:236:17
 returns : tie.Need-returns Inv-loop μ-loop
 returns c = λ es. same-stop _ _ _ _ _ _ _ _ _ _ (c .before .before .before .before .before .loop .inv .2 es) (omega arith) _ (item-stopped _ (now (c .before .before .before .before .before .before .before .before .args .table)) es (now (c .before .before .before .before .before .before .before .before .args .bytes)) _ (c .before .before .before .before .before .loop .inv .0) (omega arith) (c .before .before .before .take-item .result) (c .before .before .before .take-item .ensures) _ (c .before .r .given .1))
 
--- src/items.rt:239:9
-sub-left : tie.Need-sub-left Inv-loop μ-loop
-sub-left c = search needs
-
--- src/items.rt:230:5
-loop-less : tie.Need-loop-less Inv-loop μ-loop
-loop-less c = search needs
-
--- src/items.rt:230:5
 loop-again : tie.Need-loop-again Inv-loop μ-loop
 loop-again c =
     let h = c .before .before .before .before .before .loop .inv .0 in
@@ -60,7 +37,6 @@ loop-again c =
     let n = item-next _ (now (c .before .before .before .before .before .before .before .before .args .table)) [] (now (c .before .before .before .before .before .before .before .before .args .bytes)) _ h (omega arith) (c .before .before .before .take-item .result) (c .before .before .before .take-item .ensures) _ (c .before .q .given .1) in
     (w .at, omega (arith, n), λ es. same-turn _ _ _ _ _ _ _ _ _ _ _ _ item-numbers (c .before .before .before .before .before .loop .inv .2 es) (omega arith) (item-went _ (now (c .before .before .before .before .before .before .before .before .args .table)) es (now (c .before .before .before .before .before .before .before .before .args .bytes)) _ h (omega arith) (c .before .before .before .take-item .result) (c .before .before .before .take-item .ensures) _ (c .before .q .given .1)))
 
--- src/items.rt:224:1
 returns-2 : tie.Need-returns-2 Inv-loop μ-loop
 returns-2 c = let h = c .before .loop .inv .0 in λ es. same-done _ _ _ _ _ _ _ _ _ _ (c .before .loop .inv .2 es) (omega arith) (h .length)
 
@@ -72,10 +48,10 @@ take-items-spec =
     μ-loop
     loop-holds
     take-item-requires
-    enum-known-q
-    enum-known-r
+    (λ c. search needs)
+    (λ c. search needs)
     returns
-    sub-left
-    loop-less
+    (λ c. search needs)
+    (λ c. search needs)
     loop-again
     returns-2)

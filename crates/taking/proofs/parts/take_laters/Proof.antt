@@ -14,9 +14,6 @@ use Rattle.taking.proofs.Laws.Parts.{later-went, later-stopped, later-n
 use borrow.Author.Needs.{needs}
 use Rattle.taking.proofs.parts.take_laters.Statement.{statement}
 use Rattle.taking.proofs.parts.take_laters.Tie as tie
-use Rattle.taking.proofs.parts.take_laters.Reads as reads
-use Rattle.taking.proofs.parts.take_laters.Lts as lts
-use Rattle.taking.proofs.parts.take_later.Reads as take-later-reads
 
 abbrev Inv-loop : tie.InvT-loop
 Inv-loop table elements bytes n reference marked left₀ at₀ left at = At table bytes at × (at .element ≤ length elements) × (at .number + 2 * left ≤ length table) × ((y : ℕ) → Same (upTo y) 2 (takePart (referenceOf reference) (laterRules marked)) flattenPart (subobjectBytes (referenceOf reference)) (tableOf table elements bytes) n at₀ left at)
@@ -24,35 +21,15 @@ Inv-loop table elements bytes n reference marked left₀ at₀ left at = At tabl
 abbrev μ-loop : tie.MeasureT-loop
 μ-loop table elements bytes n reference marked left₀ at₀ left at = left
 
--- src/parts.rt:191:5
 loop-holds : tie.Need-loop-holds Inv-loop μ-loop
 loop-holds c = (c .before .before .before .pre .0, c .before .before .before .pre .1, c .before .before .before .pre .2, λ y. same-start _ _ _ _ _ _ _ _)
 
--- src/parts.rt:192:15
 take-later-requires : tie.Need-take-later-requires Inv-loop μ-loop
 take-later-requires c κs = (c .before .loop .inv .0, c .before .loop .inv .1, omega arith)
 
--- src/parts.rt:193:25
-enum-known-q : tie.Need-enum-known-q Inv-loop μ-loop
-enum-known-q c = search needs
-
--- src/parts.rt:196:28
-enum-known-r : tie.Need-enum-known-r Inv-loop μ-loop
-enum-known-r c = search needs
-
--- src/parts.rt:197:17
 returns : tie.Need-returns Inv-loop μ-loop
 returns c = λ y. same-stop _ _ _ _ _ _ _ _ _ _ (c .before .before .before .before .before .loop .inv .3 y) (omega arith) _ (later-stopped y (now (c .before .before .before .before .before .before .before .before .before .args .table)) (now (c .before .before .before .before .before .before .before .before .before .args .elements)) (now (c .before .before .before .before .before .before .before .before .before .args .bytes)) (referenceOf (c .before .before .before .before .before .before .before .before .before .args .reference)) (c .before .before .before .before .before .before .before .before .before .args .marked) _ (c .before .before .before .before .before .loop .inv .0) (omega arith) (c .before .before .before .take-later .result) (c .before .before .before .take-later .ensures y) _ (c .before .r .given .1))
 
--- src/parts.rt:200:9
-sub-left : tie.Need-sub-left Inv-loop μ-loop
-sub-left c = search needs
-
--- src/parts.rt:191:5
-loop-less : tie.Need-loop-less Inv-loop μ-loop
-loop-less c = search needs
-
--- src/parts.rt:191:5
 loop-again : tie.Need-loop-again Inv-loop μ-loop
 loop-again c =
     let h = c .before .before .before .before .before .loop .inv .0 in
@@ -60,7 +37,6 @@ loop-again c =
     let n = later-next 0 (now (c .before .before .before .before .before .before .before .before .before .args .table)) (now (c .before .before .before .before .before .before .before .before .before .args .elements)) (now (c .before .before .before .before .before .before .before .before .before .args .bytes)) (referenceOf (c .before .before .before .before .before .before .before .before .before .args .reference)) (c .before .before .before .before .before .before .before .before .before .args .marked) _ h (omega arith) (c .before .before .before .take-later .result) (c .before .before .before .take-later .ensures 0) _ (c .before .q .given .1) in
     (w .at, w .element (c .before .before .before .before .before .loop .inv .1), omega (arith, n), λ y. same-turn _ _ _ _ _ _ _ _ _ _ _ _ part-numbers (c .before .before .before .before .before .loop .inv .3 y) (omega arith) (later-went y (now (c .before .before .before .before .before .before .before .before .before .args .table)) (now (c .before .before .before .before .before .before .before .before .before .args .elements)) (now (c .before .before .before .before .before .before .before .before .before .args .bytes)) (referenceOf (c .before .before .before .before .before .before .before .before .before .args .reference)) (c .before .before .before .before .before .before .before .before .before .args .marked) _ h (omega arith) (c .before .before .before .take-later .result) (c .before .before .before .take-later .ensures y) _ (c .before .q .given .1)))
 
--- src/parts.rt:177:1
 returns-2 : tie.Need-returns-2 Inv-loop μ-loop
 returns-2 c = let h = c .before .loop .inv .0 in λ y. same-done _ _ _ _ _ _ _ _ _ _ (c .before .loop .inv .3 y) (omega arith) (h .length)
 
@@ -72,10 +48,10 @@ take-laters-spec =
     μ-loop
     loop-holds
     take-later-requires
-    enum-known-q
-    enum-known-r
+    (λ c. search needs)
+    (λ c. search needs)
     returns
-    sub-left
-    loop-less
+    (λ c. search needs)
+    (λ c. search needs)
     loop-again
     returns-2)

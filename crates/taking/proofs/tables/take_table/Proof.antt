@@ -1,4 +1,4 @@
-use Prim.Native.Nat.{ℕ, _+_, _-_, _≤_}
+use Prim.Native.Nat.{_-_, _≤_}
 use native.Mathlib.Omega.{arith}
 use denote.Ref.{now}
 use lib.ListN.{length}
@@ -7,9 +7,6 @@ use Rattle.taking.proofs.Laws.Tables.{all-bytes, Going, going-start, ro
 use borrow.Author.Needs.{needs}
 use Rattle.taking.proofs.tables.take_table.Statement.{statement}
 use Rattle.taking.proofs.tables.take_table.Tie as tie
-use Rattle.taking.proofs.tables.take_table.Reads as reads
-use Rattle.taking.proofs.tables.take_table.Lts as lts
-use Rattle.taking.proofs.rows.take_row.Reads as take-row-reads
 
 abbrev Inv-loop : tie.InvT-loop
 Inv-loop table elements bytes year p₀ records₀ p records = At table bytes p × (p .element ≤ length elements) × (records ≤ p .number) × Going year table elements bytes records p
@@ -17,48 +14,29 @@ Inv-loop table elements bytes year p₀ records₀ p records = At table bytes p 
 abbrev μ-loop : tie.MeasureT-loop
 μ-loop table elements bytes year p₀ records₀ p records = length table - p .number
 
--- src/tables.rt:36:5
 loop-holds : tie.Need-loop-holds Inv-loop μ-loop
 loop-holds c = (record { number = omega arith; byte = omega arith; length = omega arith; isBytes = all-bytes (now (c .before .before .before .args .bytes)) (λ i. omega (arith, c .shared-slice-known3 .given i)) }, omega arith, omega arith, going-start _ _ _ _)
 
--- src/tables.rt:37:15
 take-row-requires : tie.Need-take-row-requires Inv-loop μ-loop
 take-row-requires c κs = (c .before .before .loop .inv .0, c .before .before .loop .inv .1)
 
--- src/tables.rt:38:25
-enum-known-q : tie.Need-enum-known-q Inv-loop μ-loop
-enum-known-q c = search needs
-
--- src/tables.rt:41:28
-enum-known-r : tie.Need-enum-known-r Inv-loop μ-loop
-enum-known-r c = search needs
-
--- src/tables.rt:42:17
 returns : tie.Need-returns Inv-loop μ-loop
 returns c = going-stop (c .before .before .before .before .before .before .before .before .before .before .args .year) (now (c .before .before .before .before .before .before .before .before .before .before .args .table)) (now (c .before .before .before .before .before .before .before .before .before .before .args .elements)) (now (c .before .before .before .before .before .before .before .before .before .before .args .bytes)) _ _ (c .before .before .before .before .before .before .loop .inv .3) (c .before .before .before .before .before .before .loop .inv .0) (c .before .before .before .before .if1 .taken) (c .before .before .before .take-row .result) (c .before .before .before .take-row .ensures) _ (c .before .r .given .1)
 
--- src/tables.rt:45:9
-add-records : tie.Need-add-records Inv-loop μ-loop
-add-records c = omega arith
-
--- src/tables.rt:36:5
 loop-less : tie.Need-loop-less Inv-loop μ-loop
 loop-less c =
     let n = row-next (c .before .before .before .before .before .before .before .before .before .before .args .year) (now (c .before .before .before .before .before .before .before .before .before .before .args .table)) (now (c .before .before .before .before .before .before .before .before .before .before .args .elements)) (now (c .before .before .before .before .before .before .before .before .before .before .args .bytes)) _ _ (c .before .before .before .before .before .before .loop .inv .3) (c .before .before .before .before .before .before .loop .inv .0) (c .before .before .before .before .if1 .taken) (c .before .before .before .take-row .result) (c .before .before .before .take-row .ensures) _ (c .before .q .given .1) in
     omega (arith, n)
 
--- src/tables.rt:36:5
 loop-again : tie.Need-loop-again Inv-loop μ-loop
 loop-again c =
     let n = row-next (c .before .before .before .before .before .before .before .before .before .before .args .year) (now (c .before .before .before .before .before .before .before .before .before .before .args .table)) (now (c .before .before .before .before .before .before .before .before .before .before .args .elements)) (now (c .before .before .before .before .before .before .before .before .before .before .args .bytes)) _ _ (c .before .before .before .before .before .before .loop .inv .3) (c .before .before .before .before .before .before .loop .inv .0) (c .before .before .before .before .if1 .taken) (c .before .before .before .take-row .result) (c .before .before .before .take-row .ensures) _ (c .before .q .given .1) in
     let w = row-went (c .before .before .before .before .before .before .before .before .before .before .args .year) (now (c .before .before .before .before .before .before .before .before .before .before .args .table)) (now (c .before .before .before .before .before .before .before .before .before .before .args .elements)) (now (c .before .before .before .before .before .before .before .before .before .before .args .bytes)) _ _ (c .before .before .before .before .before .before .loop .inv .3) (c .before .before .before .before .before .before .loop .inv .0) (c .before .before .before .before .if1 .taken) (c .before .before .before .take-row .result) (c .before .before .before .take-row .ensures) _ (c .before .q .given .1) in
     (w .at, w .element (c .before .before .before .before .before .before .loop .inv .1), omega (arith, n), going-turn (c .before .before .before .before .before .before .before .before .before .before .args .year) (now (c .before .before .before .before .before .before .before .before .before .before .args .table)) (now (c .before .before .before .before .before .before .before .before .before .before .args .elements)) (now (c .before .before .before .before .before .before .before .before .before .before .args .bytes)) _ _ (c .before .before .before .before .before .before .loop .inv .3) (c .before .before .before .before .before .before .loop .inv .0) (c .before .before .before .before .if1 .taken) (c .before .before .before .take-row .result) (c .before .before .before .take-row .ensures) _ (c .before .q .given .1))
 
--- src/tables.rt:48:9
 returns-2 : tie.Need-returns-2 Inv-loop μ-loop
 returns-2 c = going-done (c .before .before .before .before .before .before .before .before .before .args .year) (now (c .before .before .before .before .before .before .before .before .before .args .table)) (now (c .before .before .before .before .before .before .before .before .before .args .elements)) (now (c .before .before .before .before .before .before .before .before .before .args .bytes)) _ _ (c .before .before .before .before .before .loop .inv .3) (c .before .before .before .before .before .loop .inv .0) (c .before .before .before .if1 .left) (c .if2 .taken)
 
--- src/tables.rt:26:1
 returns-3 : tie.Need-returns-3 Inv-loop μ-loop
 returns-3 c = going-left (c .before .before .before .before .before .before .before .before .before .args .year) (now (c .before .before .before .before .before .before .before .before .before .args .table)) (now (c .before .before .before .before .before .before .before .before .before .args .elements)) (now (c .before .before .before .before .before .before .before .before .before .args .bytes)) _ _ (c .before .before .before .before .before .loop .inv .3) (c .before .before .before .before .before .loop .inv .0) (c .before .before .before .if1 .left) (c .if2 .left)
 
@@ -70,10 +48,10 @@ take-table-spec =
     μ-loop
     loop-holds
     take-row-requires
-    enum-known-q
-    enum-known-r
+    (λ c. search needs)
+    (λ c. search needs)
     returns
-    add-records
+    (λ c. omega arith)
     loop-less
     loop-again
     returns-2
