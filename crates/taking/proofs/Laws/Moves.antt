@@ -43,6 +43,9 @@ capped-is n h = go (leb n limit) refl
     go true e = refl
     go false e = let l = leb-false n limit e in omega (arith, l)
 
+pub capped-past : (n : ℕ) → limit < n → 16777217 ≡ capped n
+capped-past n h = rw (lt-leb n limit h)
+
 pub capped-add : (a b : ℕ) → capped (capped a + b) ≡ capped (a + b)
 capped-add a b = go (leb a limit) refl
   where

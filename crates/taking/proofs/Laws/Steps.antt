@@ -23,6 +23,10 @@ refusedBy q = refused (q .number) (q .place) (q .year)
 pub bind-refused : {A B : Type 0} (al : ℕ → Bool) (w : Walk A) (f : A → Walk B) (q : Refusal) → answer al w ≡ refusedBy q → answer al (w >>= f) ≡ refusedBy q
 bind-refused al w f q e = answer-bind al w f ∙ ap (λ v. andThen v (λ a. answer al (f a))) e
 
+-- a link of a chain with its check written out, so that a wrong one is named by itself
+pub link : {o : Step} {y p : ℕ} (c : Check) (r : Step) → Next o y p (c ∷ []) r → Next o y p (c ∷ []) r
+link c r n = n
+
 -- two lists of checks, one after another
 pub checks-append : {A : Type 0} (p : ℕ) (cs ds : List Check) (w : Walk A) → (checks p (cs ++ ds) >> w) ≡ (checks p cs >> (checks p ds >> w))
 checks-append p [] ds w = refl

@@ -1,3 +1,6 @@
+use mathlib.Core.Path.{_≡_, sym, ap, _∙_}
+use Rattle.layout.specs.Shared.Types.{kindOf, wide}
+use Rattle.taking.specs.Items.{valueOf}
 use borrow.Author.Tests.{eq-eqb, ne-eqb}
 use native.Mathlib.Omega.{arith}
 use borrow.Author.Needs.{needs}
@@ -8,7 +11,10 @@ returns : tie.Need-returns
 returns c = rw (c .sized .ensures) (simp (c .before .if1 .taken), omega arith)
 
 returns-2 : tie.Need-returns-2
-returns-2 c = rw (c .sized2 .ensures) (simp (c .before .before .if1 .left, eq-eqb _ _ (c .before .if2 .taken)), omega arith)
+returns-2 c =
+    let k : kindOf (c .before .before .before .args .t) ≡ wide = simp (c .before .before .if1 .left, eq-eqb _ _ (c .before .if2 .taken)) in
+    let e : c .sized2 .result ≡ valueOf wide (c .before .before .before .args .scale) (c .before .before .before .args .size) = c .sized2 .ensures in
+    (e ∙ ap (λ k. valueOf k (c .before .before .before .args .scale) (c .before .before .before .args .size)) (sym k), rw e (omega arith))
 
 returns-3 : tie.Need-returns-3
 returns-3 c = rw (c .sized3 .ensures) (simp (c .before .before .before .if1 .left, ne-eqb _ _ (c .before .before .if2 .left), c .before .if3 .taken), omega arith)
