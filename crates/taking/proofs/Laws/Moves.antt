@@ -43,6 +43,14 @@ capped-is n h = go (leb n limit) refl
     go true e = refl
     go false e = let l = leb-false n limit e in omega (arith, l)
 
+-- a length within the limit is the length itself
+pub capped-back : (n : ℕ) → capped n ≤ limit → capped n ≡ n
+capped-back n h = go (leb n limit) h
+  where
+    go : (b : Bool) → cond b n (limit + 1) ≤ limit → cond b n (limit + 1) ≡ n
+    go true h = refl
+    go false h = absurd (omega arith)
+
 pub capped-past : (n : ℕ) → limit < n → 16777217 ≡ capped n
 capped-past n h = rw (lt-leb n limit h)
 
