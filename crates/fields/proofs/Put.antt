@@ -4,7 +4,7 @@ use mathlib.Core.List.{List, [], _∷_, _++_}
 use mathlib.Core.Path.{_≡_, refl, sym, ap, _∙_}
 use Prim.Native.Nat.{ℕ, zero, suc, _+_, _-_, _*_, _≤_, _<_}
 use lib.ListN.{length, getD, take, drop, set, length-set}
-use lib.Seq.{sets, drop-drop, drop-cons, length-sets, set-comm}
+use lib.Seq.{sets, sets-eq, drop-drop, drop-cons, length-sets, set-comm}
 use native.Mathlib.Nat.{mul-suc, mul-zero, add-zero}
 use native.Mathlib.Omega.{arith}
 use Rattle.layout.specs.Bytes.{number, numbers, repeat, total}
@@ -13,6 +13,10 @@ use Rattle.laws.proofs.Base.Numbers.{length-numbers}
 pub sets-append : (l : List ℕ) (i : ℕ) (a b : List ℕ) → sets l i (a ++ b) ≡ sets (sets l i a) (i + length a) b
 sets-append l i [] b = rw add-zero
 sets-append l i (x ∷ a) b = sets-append (set l i x) (suc i) a b ∙ ap (λ (k : ℕ). sets (sets (set l i x) (suc i) a) k b) (omega arith)
+
+-- a list set from the front on: the list, and then what was there
+pub front-laid : (vs old : List ℕ) → length vs ≤ length old → sets old 0 vs ≡ vs ++ drop (length vs) old
+front-laid vs old h = let q : 0 + length vs ≡ length vs = omega arith in sets-eq vs old 0 (omega arith) ∙ rw q refl
 
 -- what is written later at lower places could as well be written before
 set-sets : (l : List ℕ) (i j x : ℕ) (b : List ℕ) → i < j → set (sets l j b) i x ≡ sets (set l i x) j b

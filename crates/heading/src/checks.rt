@@ -1,7 +1,8 @@
 // The writer's checks on the head, by place in the sheet.
 ghost use mathlib.Core.List.{[], _∷_};
 ghost use mathlib.Core.Path.{_≡_};
-ghost use Prim.Native.Nat.{ℕ};
+ghost use Prim.Native.Nat.{ℕ, _≤_};
+ghost use lib.ListN.{length};
 ghost use Rattle.fields.specs.Steps.{Next};
 ghost use Rattle.fields.specs.declared.steps.Step.the-variants.{Fine};
 ghost use Rattle.heading.specs.Heads.{headOf, headRules};
@@ -33,11 +34,12 @@ pub fn check_head(
     date: &[u8],
     designation: &[u8],
     title: &[u8],
-    rest: &[u8; 304],
+    rest: &[u8],
     designation2: &[u8],
-    carried: &[u8; 4],
+    carried: &[u8],
     year: u32,
 ) -> Step
+    requires { ⌜ (304 ≤ length (now rest)) × (4 ≤ length (now carried)) ⌝ }
     ensures { λ r. ⌜ ((scale : ℕ) → Next Fine year 0 (headRules (headOf (now (date .entry)) (now (designation .entry)) scale (now (title .entry))
         (now (rest .entry)) (now (designation2 .entry)) (now (carried .entry)))) r) ⌝ }
 {
