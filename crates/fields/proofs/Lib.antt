@@ -2,3 +2,4 @@
 pub mod Laws
 pub mod Chain
 pub mod Put
+pub mod Widths

@@ -4,7 +4,7 @@ use mathlib.Core.List.{List, [], _∷_, _++_}
 use mathlib.Core.Path.{_≡_, refl, sym, ap, _∙_}
 use Prim.Native.Nat.{ℕ, zero, suc, _+_, _-_, _*_, _≤_, _<_}
 use lib.ListN.{length, getD, take, drop, set, length-set}
-use lib.Seq.{sets, drop-drop, drop-cons, length-sets, set-comm}
+use lib.Seq.{sets, sets-eq, drop-drop, drop-cons, length-sets, set-comm}
 use native.Mathlib.Nat.{mul-suc, mul-zero, add-zero}
 use native.Mathlib.Omega.{arith}
 use Rattle.layout.specs.Bytes.{number, numbers, repeat, total}
@@ -13,6 +13,10 @@ use Rattle.laws.proofs.Base.Numbers.{length-numbers}
 pub sets-append : (l : List ℕ) (i : ℕ) (a b : List ℕ) → sets l i (a ++ b) ≡ sets (sets l i a) (i + length a) b
 sets-append l i [] b = rw add-zero
 sets-append l i (x ∷ a) b = sets-append (set l i x) (suc i) a b ∙ ap (λ (k : ℕ). sets (sets (set l i x) (suc i) a) k b) (omega arith)
+
+-- a list set from the front on: the list, and then what was there
+pub front-laid : (vs old : List ℕ) → length vs ≤ length old → sets old 0 vs ≡ vs ++ drop (length vs) old
+front-laid vs old h = let q : 0 + length vs ≡ length vs = omega arith in sets-eq vs old 0 (omega arith) ∙ rw q refl
 
 -- what is written later at lower places could as well be written before
 set-sets : (l : List ℕ) (i j x : ℕ) (b : List ℕ) → i < j → set (sets l j b) i x ≡ sets (set l i x) j b
@@ -30,11 +34,11 @@ numbers-append [] ws xs = refl
 numbers-append (u ∷ v) ws xs =
     ap (λ l. number u xs ∷ l) (numbers-append v ws (drop u xs) ∙ ap (λ l. numbers v (drop u xs) ++ numbers ws l) (drop-drop (total v) u xs))
 
-repeat-cons : (n : ℕ) (ws : List ℕ) → 0 < n → repeat n ws ≡ ws ++ repeat (n - 1) ws
+pub repeat-cons : (n : ℕ) (ws : List ℕ) → 0 < n → repeat n ws ≡ ws ++ repeat (n - 1) ws
 repeat-cons zero ws h = absurd (omega arith)
 repeat-cons (suc n) ws h = let e : suc n - 1 ≡ n = omega arith in rw e
 
-repeat-none : (n : ℕ) (ws : List ℕ) → n ≤ 0 → repeat n ws ≡ []
+pub repeat-none : (n : ℕ) (ws : List ℕ) → n ≤ 0 → repeat n ws ≡ []
 repeat-none zero ws h = refl
 repeat-none (suc n) ws h = absurd (omega arith)
 

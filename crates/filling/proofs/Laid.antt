@@ -3,7 +3,7 @@ use mathlib.Core.List.{List, _++_}
 use mathlib.Core.Path.{_≡_, refl, ap, _∙_}
 use Prim.Native.Nat.{ℕ, _+_, _≤_}
 use lib.ListN.{length, drop}
-use lib.Seq.{sets, sets-eq}
+use lib.Seq.{sets}
 use native.Mathlib.Omega.{arith}
 use Rattle.filling.specs.Cursors.{Room, Wrote}
 use Rattle.filling.specs.Pieces.{timesIn, timesSize, Each}
@@ -16,6 +16,7 @@ use Rattle.layout.specs.Sheet.{Table}
 use Rattle.layout.specs.Walk.{always}
 use Rattle.layout.specs.Writing.Tables.{joined, flattenRecord, flatten}
 use Rattle.laws.proofs.Base.Walks.{outcome-is}
+use Rattle.fields.proofs.Put.{front-laid}
 use Rattle.filling.proofs.SheetValues.{Read, sheet-value}
 
 -- past passport and descriptor, with nothing written yet
@@ -54,10 +55,6 @@ pub sheet-filled : (s : List ℕ) (n : ℕ) → n ≡ number 4 (drop 440 s) → 
     → Filled (flatten (sheetRecords s)) t₀ e₀ b₀ t₁ e₁ b₁
 unfolding flatten sheetRecords
 sheet-filled s n e t₀ e₀ b₀ t₁ e₁ b₁ w = rw (← e) (record { numbers = w .numbers; elements = w .elements; bytes = w .bytes })
-
--- a list set from the front on: the list, and then what was there
-pub front-laid : (vs old : List ℕ) → length vs ≤ length old → sets old 0 vs ≡ vs ++ drop (length vs) old
-front-laid vs old h = let q : 0 + length vs ≡ length vs = omega arith in sets-eq vs old 0 (omega arith) ∙ rw q refl
 
 -- so a slice that was filled holds its list, and after it what it held
 pub record Laid (t : Table) (t₀ e₀ b₀ t₁ e₁ b₁ : List ℕ) : Type 0 where

@@ -9,6 +9,7 @@ use native.Mathlib.Omega.{arith}
 use Rattle.layout.specs.Bytes.{All}
 use Rattle.layout.specs.Layout.Encode.{encode}
 use Rattle.layout.specs.Layout.Fine.{FineItem, FineLabel, FineSubobject, Fine}
+use Rattle.layout.specs.Layout.Sizes.{sumBy, itemBytes, subobjectBytes, recordBytes}
 use Rattle.layout.specs.Reading.Sheets.{start}
 use Rattle.layout.specs.Shared.Reference.{elementSize, floating, threeDimensions, textInMetric}
 use Rattle.layout.specs.Shared.Widths.{elementWidths, pointBytes, widths, pointSize}
@@ -16,7 +17,7 @@ use Rattle.layout.specs.Sheet.{Item, Part, Reference, Record, Sheet}
 use Rattle.layout.specs.Writing.Tables.{flatten}
 use Rattle.laws.proofs.Writing.Limits.{all-near}
 use Rattle.laws.proofs.Writing.Records.{NearRecord}
-use Rattle.laws.proofs.Writing.Sizes.{sumBy, sum-times, itemBytes, subobjectBytes, recordBytes, rowNumbers, rowElements, rowBytes, encode-length, flatten-sizes}
+use Rattle.laws.proofs.Writing.Sizes.{sum-times, rowNumbers, rowElements, rowBytes, encode-length, flatten-sizes}
 -- "a fine sheet's sum fits 32 bits" and "its length is 452 plus the records' lengths": `sum-fits` and `length-encode` stand with the
 -- encoding, and are passed on here
 pub use Rattle.laws.proofs.Encoding.Lengths.{length-encode}

@@ -3,3 +3,4 @@
 pub mod Encode
 pub mod Fine
 pub mod Uses
+pub mod Sizes

@@ -12,16 +12,12 @@ use Rattle.reading.proofs.sheets.check.Kinds as check-kinds
 use Rattle.reading.proofs.sheets.check.Reads as check-sheet
 use Rattle.reading.proofs.sheets.unfold.Kinds as unfold-kinds
 use Rattle.reading.proofs.sheets.unfold.Reads as unfold-sheet
-use borrow.Fn.Kinds.{PK, RK, Dens, Out, resT, endedOf}
+use Rattle.views.proofs.Once.{Once}
+use borrow.Fn.Kinds.{Dens, resT, endedOf}
 use contract.Lifetimes.{Lfts}
 use denote.Ref.{now}
 use denote.Triple.Clauses.{AtExit}
-use mathlib.Core.List.{List}
 use mathlib.Core.Path.{_≡_, sym, _∙_}
-
--- of a function with parameters ps and the result r; e and f are what stands in the parameters as it returns
-abbrev pub Once : {n : _} (ps : List (PK n)) (r : RK n) → Out n ps r → Type 0
-Once {n} ps r Post = (κs : Lfts n) (a : Dens κs ps) (x y : resT r κs .Denot) (e f : AtExit (endedOf n ps r) κs) → Post κs a x e → Post κs a y f → x ≡ y
 
 pub once-check : Once check-kinds.ps check-kinds.r check-sheet.Post
 once-check κs a x y e f p q = p ∙ sym q

@@ -1,10 +1,10 @@
 -- Each call has one right answer for each input: two results that meet its contract are equal, and so is what they leave in the lent
 -- slices.
-use Rattle.reading.proofs.Once.{Once}
 use Rattle.sxf.proofs.sheets.sxf_check.Kinds as check-kinds
 use Rattle.sxf.proofs.sheets.sxf_check.Reads as check-sheet
 use Rattle.sxf.proofs.sheets.sxf_unfold.Kinds as unfold-kinds
 use Rattle.sxf.proofs.sheets.sxf_unfold.Reads as unfold-sheet
+use Rattle.views.proofs.Once.{Once}
 use borrow.Fn.Kinds.{Dens, resT, endedOf}
 use contract.Lifetimes.{Lfts}
 use denote.Ref.{now}

@@ -33,8 +33,8 @@ use mathlib.Core.List.{List}
 use mathlib.Core.Path.{_≡_, sym, _∙_}
 
 -- of a function with parameters ps and the result r; e and f are what stands in the parameters as it returns
-abbrev Once : (ps : List (PK 0)) (r : RK 0) → Out 0 ps r → Type 0
-Once ps r Post = (κs : Lfts 0) (a : Dens κs ps) (x y : resT r κs .Denot) (e f : AtExit (endedOf 0 ps r) κs) → Post κs a x e → Post κs a y f → x ≡ y
+abbrev pub Once : {n : _} (ps : List (PK n)) (r : RK n) → Out n ps r → Type 0
+Once {n} ps r Post = (κs : Lfts n) (a : Dens κs ps) (x y : resT r κs .Denot) (e f : AtExit (endedOf n ps r) κs) → Post κs a x e → Post κs a y f → x ≡ y
 
 pub once-coordinate-of : Once coordinate-of-kinds.ps coordinate-of-kinds.r coordinate-of.Post
 once-coordinate-of κs a x y e f p q = p ∙ sym q

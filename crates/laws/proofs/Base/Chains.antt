@@ -10,7 +10,7 @@ use Rattle.laws.proofs.Base.Walks.{bind-assoc, checks-case, checks-on, 
 abbrev pub fourChecks : ℕ → List Check → List Check → List Check → List Check → Walk (Unit {0})
 fourChecks p a b c d = checks p a >> (checks p b >> (checks p c >> checks p d))
 
-four-then : {A : Type 0} (p : ℕ) (a b c d : List Check) (w : Walk A)
+pub four-then : {A : Type 0} (p : ℕ) (a b c d : List Check) (w : Walk A)
     → (fourChecks p a b c d >> w) ≡ (checks p a >> (checks p b >> (checks p c >> (checks p d >> w))))
 four-then p a b c d w =
     bind-assoc (checks p a) (λ _. checks p b >> (checks p c >> checks p d)) (λ _. w)

@@ -41,7 +41,7 @@ unfolding encodeWith
 with-is t sum = ap (λ l. l ++ flat encodeRecord (t .records)) (head-is (t .head) sum (length (t .records)))
 
 -- the sum does not count its own field
-sum-with : (t : Sheet) (sum : ℕ) → sumOf (encodeWith t sum) ≡ sheetSum t
+pub sum-with : (t : Sheet) (sum : ℕ) → sumOf (encodeWith t sum) ≡ sheetSum t
 unfolding encodeWith encodeHead sheetSum
 sum-with t sum = omega arith
 

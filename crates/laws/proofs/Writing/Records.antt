@@ -93,7 +93,7 @@ count-fits word points h e = go (takesMark points) refl e
     go true t e = let q : word ≡ points = eqb-true word points e in omega arith
     go false t e = let q : points < mark = leb-false mark points t in omega arith
 
-near-first : (r : Record) → NearRecord r → FineFirst (r .reference) (r .word) (r .first)
+pub near-first : (r : Record) → NearRecord r → FineFirst (r .reference) (r .word) (r .first)
 near-first r n = record { points = count-fits (r .word) (r .first .points) (n .word) (n .counted); counted = n .counted; part = n .first }
 
 -- the reference bytes as one number
@@ -105,7 +105,7 @@ three a b c la lb lc =
     let h2 : n / 65536 ≡ c = omega arith in
     (omega arith, rw h1 (omega arith), rw h2 (omega arith))
 
-bytes-of-number : (r : Reference) → r .byte20 < 256 → r .byte21 < 256 → r .byte22 < 256 → Row.referenceOf (Row.referenceNumber r) ≡ r
+pub bytes-of-number : (r : Reference) → r .byte20 < 256 → r .byte21 < 256 → r .byte22 < 256 → Row.referenceOf (Row.referenceNumber r) ≡ r
 bytes-of-number r l20 l21 l22 =
     let e = three (r .byte20) (r .byte21) (r .byte22) l20 l21 l22 in
     λ j. record { byte20 = e .0 j; byte21 = e .1 j; byte22 = e .2 j }

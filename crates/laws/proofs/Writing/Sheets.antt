@@ -71,10 +71,10 @@ pub text-on : (f : Field) (t : List ℕ) → FineText f t → isText f t ≡ tru
 text-on f t h = rw (lt-ltb (length t) (f .width) (h .short)) (no-zero-on t (h .nonzero))
 
 -- what the checks on a head ask
-abbrev HeadHolds : Head → Type 0
+abbrev pub HeadHolds : Head → Type 0
 HeadHolds h = Hold (titleRules h) (restChecks (h .rest)) (textFits Descriptor.designation (h .designation2) ∷ []) (carriedChecks (h .carried))
 
-head-back : (h : Head) → Typed h → HeadHolds h → FineHead h
+pub head-back : (h : Head) → Typed h → HeadHolds h → FineHead h
 unfolding titleRules
 head-back h ty c = record {
   date = text-back Passport.date (h .date) (ty .date) (c .0 .0);

@@ -7,17 +7,14 @@ use lib.ListN.{length, length-append}
 use native.Mathlib.Nat.{zero-mul, add-mul}
 use native.Mathlib.Omega.{arith}
 use Rattle.layout.specs.Bytes.{All, flat, storedAll, repeat, total}
-use Rattle.layout.specs.Fields.Header
-use Rattle.layout.specs.Fields.Item as ItemField
-use Rattle.layout.specs.Fields.Subobject
 use Rattle.layout.specs.Layout.Encode.{encodeItem, encodeText, encodePart, encodeSubobject, encodeMetric, encodeSemantics, encodeRecord}
 use Rattle.layout.specs.Layout.Encode.{encode}
 use Rattle.layout.specs.Layout.Fine.{FineItem, FinePart, FineSubobject, FineHead}
+use Rattle.layout.specs.Layout.Sizes.{sumBy, itemBytes, partBytes, subobjectBytes, recordBytes}
 use Rattle.layout.specs.Reading.Sheets.{start}
 use Rattle.layout.specs.Shared.Mark.{takesMark}
 use Rattle.layout.specs.Shared.Reference.{elementSize, floating, threeDimensions, textInMetric}
 use Rattle.layout.specs.Shared.Row
-use Rattle.layout.specs.Shared.Types.{kindOf, lengthBytes}
 use Rattle.layout.specs.Shared.Widths.{widths, pointSize, point-is-elements}
 use Rattle.layout.specs.Sheet.{Item, Part, Reference, Record, Sheet, Table}
 use Rattle.layout.specs.Writing.Tables.{joined, flattenHeader, flattenPart, flattenItem, flattenRecord, flatten}
@@ -28,30 +25,12 @@ use Rattle.laws.proofs.Writing.Records.{NearRecord, record-numbers}
 
 -- Bytes
 
-abbrev pub sumBy : {A : Type 0} → (A → ℕ) → List A → ℕ
-sumBy f [] = 0
-sumBy f (a ∷ l) = f a + sumBy f l
-
-abbrev pub itemBytes : Item → ℕ
-itemBytes i = ItemField.size + (lengthBytes (kindOf (i .type)) + length (i .value))
-
--- a text has a length byte and a closing zero
-abbrev pub partBytes : Reference → Part → ℕ
-partBytes r a = a .points * pointSize r + cond (textInMetric r) (2 + length (a .text)) 0
-
-abbrev pub subobjectBytes : Reference → Part → ℕ
-subobjectBytes r a = Subobject.size + partBytes r a
-
-unfoldable pub recordBytes : Record → ℕ
-recordBytes r =
-    Header.size + (partBytes (r .reference) (r .first) + sumBy (subobjectBytes (r .reference)) (r .subobjects) + sumBy itemBytes (r .items))
-
 length-flat : {A : Type 0} (E : A → List ℕ) (F : A → Type 0) (f : A → ℕ) → ((a : A) → F a → length (E a) ≡ f a) → (l : List A) → All F l
     → length (flat E l) ≡ sumBy f l
 length-flat E F f g [] h = refl
 length-flat E F f g (a ∷ l) h = rw (length-append (E a) (flat E l), g a (h .0), length-flat E F f g l (h .1))
 
-item-length : (i : Item) → length (encodeItem i) ≡ itemBytes i
+pub item-length : (i : Item) → length (encodeItem i) ≡ itemBytes i
 unfolding encodeItem
 item-length i =
     simp (length-append, length-bytes) (omega arith)

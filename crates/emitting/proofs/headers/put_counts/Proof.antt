@@ -1,0 +1,33 @@
+use Rattle.emitting.proofs.OneHeader.{counts-fit, counts-wrote}
+use native.Mathlib.Omega.{arith}
+use borrow.Author.Needs.{needs}
+use Rattle.emitting.proofs.headers.put_counts.Statement.{statement}
+use Rattle.emitting.proofs.headers.put_counts.Tie as tie
+
+sub-put-u16 : tie.Need-sub-put-u16
+sub-put-u16 c = let a = counts-fit (c .before .before .before .before .args .table .now) (c .before .before .before .before .args .at) (c .before .before .before .before .pre .1) in omega (arith, a)
+
+cast-put-u16 : tie.Need-cast-put-u16
+cast-put-u16 c = let a = counts-fit (c .before .before .before .before .args .table .now) (c .before .before .before .before .args .at) (c .before .before .before .before .pre .1) in omega (arith, a)
+
+returns : tie.Need-returns
+returns c = counts-wrote (c .before .before .before .before .before .before .before .before .before .before .before .before .before .args .table .now) (c .before .before .before .before .before .before .before .before .before .before .before .before .before .args .at) _ _ _ _ _ (c .before .before .before .points-of .ensures) (c .before .before .before .before .before .before .before .before .put-u16 .ensures) (c .before .before .put-u162 .ensures)
+
+pub put-counts-spec : {M : Type 1} → statement M
+put-counts-spec =
+    tie.close
+    (tie.spec
+    (λ c. search needs)
+    (λ c. search needs)
+    (λ c. search needs)
+    sub-put-u16
+    cast-put-u16
+    (λ c κs. search needs)
+    (λ c. search needs)
+    (λ c. search needs)
+    (λ c. search needs)
+    (λ c. search needs)
+    (λ c κs. search needs)
+    (λ c κs. search needs)
+    (λ c. search needs)
+    returns)

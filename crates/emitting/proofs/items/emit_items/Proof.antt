@@ -1,0 +1,43 @@
+use borrow.Author.Needs.{needs}
+use mathlib.Core.List.{[]}
+use native.Mathlib.Omega.{arith}
+use Rattle.emitting.specs.Cursors.{tableOf}
+use Rattle.layout.specs.Layout.Encode.{encodeItem}
+use Rattle.layout.specs.Layout.Fine.{FineItem}
+use Rattle.layout.specs.Writing.Tables.{flattenItem}
+use Rattle.emitting.proofs.Moves.{Left, left-start, left-next, left-turn, left-done}
+use Rattle.emitting.proofs.Unique.{item-unique}
+use Rattle.emitting.proofs.items.emit_items.Statement.{statement}
+use Rattle.emitting.proofs.items.emit_items.Tie as tie
+
+abbrev Inv-loop : tie.InvT-loop
+Inv-loop table bytes n out₀ left₀ acc₀ out left acc = Left flattenItem FineItem encodeItem item-unique n acc₀ (tableOf table [] bytes) out₀ left acc out
+
+abbrev μ-loop : tie.MeasureT-loop
+μ-loop table bytes n out₀ left₀ acc₀ out left acc = left
+
+loop-holds : tie.Need-loop-holds Inv-loop μ-loop
+loop-holds c = left-start flattenItem FineItem encodeItem item-unique (c .before .before .before .args .n) (c .before .before .before .args .c) (tableOf (c .before .before .before .args .table .now) [] (c .before .before .before .args .bytes .now)) _ (c .before .before .before .pre)
+
+emit-item-requires : tie.Need-emit-item-requires Inv-loop μ-loop
+emit-item-requires c κs = left-next flattenItem FineItem encodeItem item-unique (c .before .before .before .before .before .before .args .n) (c .before .before .before .before .before .before .args .c) (tableOf (c .before .before .before .before .before .before .args .table .now) [] (c .before .before .before .before .before .before .args .bytes .now)) _ _ _ _ (c .before .before .loop .inv) (omega arith)
+
+loop-again : tie.Need-loop-again Inv-loop μ-loop
+loop-again c = left-turn flattenItem FineItem encodeItem item-unique (c .before .before .before .before .before .before .before .before .before .args .n) (c .before .before .before .before .before .before .before .before .before .args .c) (tableOf (c .before .before .before .before .before .before .before .before .before .args .table .now) [] (c .before .before .before .before .before .before .before .before .before .args .bytes .now)) _ _ _ _ (c .before .before .before .before .before .loop .inv) (omega arith) _ _ (c .before .before .emit-item .ensures)
+
+returns : tie.Need-returns Inv-loop μ-loop
+returns c = left-done flattenItem FineItem encodeItem item-unique (c .before .before .before .before .before .args .n) (c .before .before .before .before .before .args .c) (tableOf (c .before .before .before .before .before .args .table .now) [] (c .before .before .before .before .before .args .bytes .now)) _ _ _ _ (c .before .loop .inv) (omega arith)
+
+pub emit-items-spec : {M : Type 1} → statement M
+emit-items-spec =
+    tie.close
+    (tie.spec
+    Inv-loop
+    μ-loop
+    loop-holds
+    emit-item-requires
+    (λ c. search needs)
+    (λ c. search needs)
+    loop-again
+    (λ c. search needs)
+    returns)

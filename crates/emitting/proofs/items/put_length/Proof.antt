@@ -1,0 +1,18 @@
+use Rattle.emitting.proofs.OneItem.{length-long, length-other}
+use mathlib.Core.Path.{refl}
+use native.Mathlib.Omega.{arith}
+use borrow.Author.Needs.{needs}
+use Rattle.emitting.proofs.items.put_length.Statement.{statement}
+use Rattle.emitting.proofs.items.put_length.Tie as tie
+
+put-u32-requires : tie.Need-put-u32-requires
+put-u32-requires c κs = let a = length-long (c .before .before .before .args .kind) (c .before .if1 .taken) in omega (arith, c .before .before .before .pre .0, a)
+
+returns : tie.Need-returns
+returns c = rw (← (length-long (c .before .before .before .before .before .before .args .kind) (c .before .before .before .before .if1 .taken))) ((refl, omega arith), c .before .before .put-u32 .ensures)
+
+returns-2 : tie.Need-returns-2
+returns-2 c = rw (← (length-other (c .before .before .args .kind) (c .if1 .left))) ((refl, omega arith), refl)
+
+pub put-length-spec : {M : Type 1} → statement M
+put-length-spec = tie.close (tie.spec (λ c. search needs) put-u32-requires (λ c. search needs) returns returns-2)

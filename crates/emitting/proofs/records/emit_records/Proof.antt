@@ -1,0 +1,42 @@
+use borrow.Author.Needs.{needs}
+use native.Mathlib.Omega.{arith}
+use Rattle.emitting.specs.Cursors.{tableOf}
+use Rattle.layout.specs.Layout.Encode.{encodeRecord}
+use Rattle.layout.specs.Layout.Fine.{FineRecord}
+use Rattle.layout.specs.Writing.Tables.{flattenRecord}
+use Rattle.emitting.proofs.Moves.{Left, left-start, left-next, left-turn, left-done}
+use Rattle.emitting.proofs.Unique.{record-unique}
+use Rattle.emitting.proofs.records.emit_records.Statement.{statement}
+use Rattle.emitting.proofs.records.emit_records.Tie as tie
+
+abbrev Inv-loop : tie.InvT-loop
+Inv-loop table elements bytes n out₀ left₀ acc₀ out left acc = Left flattenRecord FineRecord encodeRecord record-unique n acc₀ (tableOf table elements bytes) out₀ left acc out
+
+abbrev μ-loop : tie.MeasureT-loop
+μ-loop table elements bytes n out₀ left₀ acc₀ out left acc = left
+
+loop-holds : tie.Need-loop-holds Inv-loop μ-loop
+loop-holds c = left-start flattenRecord FineRecord encodeRecord record-unique (c .before .before .before .before .args .n) (c .before .before .before .before .args .c) (tableOf (c .before .before .before .before .args .table .now) (c .before .before .before .before .args .elements .now) (c .before .before .before .before .args .bytes .now)) _ (c .before .before .before .before .pre)
+
+emit-record-requires : tie.Need-emit-record-requires Inv-loop μ-loop
+emit-record-requires c κs = left-next flattenRecord FineRecord encodeRecord record-unique (c .before .before .before .before .before .before .before .args .n) (c .before .before .before .before .before .before .before .args .c) (tableOf (c .before .before .before .before .before .before .before .args .table .now) (c .before .before .before .before .before .before .before .args .elements .now) (c .before .before .before .before .before .before .before .args .bytes .now)) _ _ _ _ (c .before .before .loop .inv) (omega arith)
+
+loop-again : tie.Need-loop-again Inv-loop μ-loop
+loop-again c = left-turn flattenRecord FineRecord encodeRecord record-unique (c .before .before .before .before .before .before .before .before .before .before .args .n) (c .before .before .before .before .before .before .before .before .before .before .args .c) (tableOf (c .before .before .before .before .before .before .before .before .before .before .args .table .now) (c .before .before .before .before .before .before .before .before .before .before .args .elements .now) (c .before .before .before .before .before .before .before .before .before .before .args .bytes .now)) _ _ _ _ (c .before .before .before .before .before .loop .inv) (omega arith) _ _ (c .before .before .emit-record .ensures)
+
+returns : tie.Need-returns Inv-loop μ-loop
+returns c = left-done flattenRecord FineRecord encodeRecord record-unique (c .before .before .before .before .before .before .args .n) (c .before .before .before .before .before .before .args .c) (tableOf (c .before .before .before .before .before .before .args .table .now) (c .before .before .before .before .before .before .args .elements .now) (c .before .before .before .before .before .before .args .bytes .now)) _ _ _ _ (c .before .loop .inv) (omega arith)
+
+pub emit-records-spec : {M : Type 1} → statement M
+emit-records-spec =
+    tie.close
+    (tie.spec
+    Inv-loop
+    μ-loop
+    loop-holds
+    emit-record-requires
+    (λ c. search needs)
+    (λ c. search needs)
+    loop-again
+    (λ c. search needs)
+    returns)

@@ -1,0 +1,23 @@
+use mathlib.Core.Path.{_∙_, ap}
+use Rattle.emitting.proofs.OneHeader.{nth-at}
+use Rattle.fields.specs.Shapes.{shapeOf}
+use Rattle.layout.specs.Shared.Row.{referenceOf}
+use borrow.Author.Needs.{needs}
+use Rattle.emitting.proofs.records.shape_at.Statement.{statement}
+use Rattle.emitting.proofs.records.shape_at.Tie as tie
+
+returns : tie.Need-returns
+returns c = c .shape-of .ensures ∙ ap (λ n. shapeOf (referenceOf n)) (nth-at (c .before .before .before .args .table .now) (c .before .before .before .args .at) 3)
+
+pub shape-at-spec : {M : Type 1} → statement M
+shape-at-spec =
+    tie.close
+    (tie.spec
+    (λ c. search needs)
+    (λ c. search needs)
+    (λ c. search needs)
+    (λ c. search needs)
+    (λ c. search needs)
+    (λ c. search needs)
+    (λ c κs. search needs)
+    returns)

@@ -1,0 +1,29 @@
+use Rattle.layout.specs.Bytes.{bytes}
+use Rattle.layout.specs.Fields.Passport
+use Rattle.layout.specs.Shared.Texts.{padded}
+use denote.Ref.{now}
+use mathlib.Core.Path.{refl}
+use Rattle.heading.proofs.Sofar.{Sofar, first, next, padded-length}
+use borrow.Author.Needs.{needs}
+use Rattle.heading.proofs.bytes.emit_start.Statement.{statement}
+use Rattle.heading.proofs.bytes.emit_start.Tie as tie
+
+returns : tie.Need-returns
+returns c =
+    let a = first (now (c .before .before .before .before .before .before .before .before .before .before .before .before .before .before .before .before .before .before .before .before .before .before .args .out)) 0 (bytes 4 0x00465853) 4 _ refl (c .before .before .before .before .before .before .before .before .before .before .before .before .before .before .before .before .before .before .put-u32 .ensures) in
+    let b = next a (bytes 4 400) 4 _ refl (c .before .before .before .before .before .before .before .before .before .before .before .before .before .before .put-u322 .ensures) in
+    let d = next b (bytes 4 0x00040000) 4 _ refl (c .before .before .before .before .before .before .before .before .before .before .put-u323 .ensures) in
+    let e = next d (bytes 4 0) 4 _ refl (c .before .before .before .before .before .before .put-u324 .ensures) in
+    next e (padded Passport.date (now (c .before .before .before .before .before .before .before .before .before .before .before .before .before .before .before .before .before .before .before .before .before .before .args .date))) 12 _ (padded-length (now (c .before .before .before .before .before .before .before .before .before .before .before .before .before .before .before .before .before .before .before .before .before .before .args .date)) 12 (c .before .before .before .before .before .before .before .before .before .before .before .before .before .before .before .before .before .before .before .before .before .before .pre .0)) (c .before .before .put-text .ensures) .is
+
+pub emit-start-spec : {M : Type 1} → statement M
+emit-start-spec =
+    tie.close
+    (tie.spec
+    (λ c κs. search needs)
+    (λ c κs. search needs)
+    (λ c κs. search needs)
+    (λ c κs. search needs)
+    (λ c κs. search needs)
+    (λ c. search needs)
+    returns)

@@ -1,0 +1,33 @@
+use denote.Ref.{now}
+use mathlib.Core.List.{[], _∷_}
+use Rattle.fields.proofs.Chain.{_▸_}
+use Rattle.fields.specs.Steps.{Next}
+use Rattle.layout.specs.Fields.Descriptor
+use Rattle.layout.specs.Fields.Passport
+use Rattle.layout.specs.Shared.Texts.{textFits}
+use Rattle.layout.specs.Writing.Sheets.{titleRules}
+use borrow.Author.Needs.{needs}
+use Rattle.heading.proofs.checks.check_head.Statement.{statement}
+use Rattle.heading.proofs.checks.check_head.Tie as tie
+
+returns : tie.Need-returns
+unfolding titleRules
+returns c =
+    let year = c .before .before .before .before .before .before .before .before .before .before .before .before .args .year in
+    let date : Next _ year 0 (textFits Passport.date (now (c .before .before .before .before .before .before .before .before .before .before .before .before .args .date)) ∷ []) (c .before .before .before .before .before .text-fits .result) = c .before .before .before .before .before .text-fits .ensures year in
+    let designation : Next _ year 0 (textFits Passport.designation (now (c .before .before .before .before .before .before .before .before .before .before .before .before .args .designation)) ∷ []) (c .before .before .before .before .text-fits2 .result) = c .before .before .before .before .text-fits2 .ensures year in
+    let title : Next _ year 0 (textFits Passport.title (now (c .before .before .before .before .before .before .before .before .before .before .before .before .args .title)) ∷ []) (c .before .before .before .text-fits3 .result) = c .before .before .before .text-fits3 .ensures year in
+    let designation2 : Next _ year 0 (textFits Descriptor.designation (now (c .before .before .before .before .before .before .before .before .before .before .before .before .args .designation2)) ∷ []) (c .before .text-fits4 .result) = c .before .text-fits4 .ensures year in
+    λ scale. date ▸ designation ▸ title ▸ c .before .before .rest-of-passport .ensures ▸ designation2 ▸ c .carried .ensures
+
+pub check-head-spec : {M : Type 1} → statement M
+check-head-spec =
+    tie.close
+    (tie.spec
+    (λ c κs. search needs)
+    (λ c κs. search needs)
+    (λ c κs. search needs)
+    (λ c κs. search needs)
+    (λ c κs. search needs)
+    (λ c κs. search needs)
+    returns)

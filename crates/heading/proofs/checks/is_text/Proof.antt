@@ -1,0 +1,15 @@
+use denote.Ref.{now}
+use native.Mathlib.Omega.{arith}
+use Rattle.heading.proofs.Texts.{short-text, long-text}
+use borrow.Author.Needs.{needs}
+use Rattle.heading.proofs.checks.is_text.Statement.{statement}
+use Rattle.heading.proofs.checks.is_text.Tie as tie
+
+returns : tie.Need-returns
+returns c = short-text (now (c .before .before .before .args .text)) (c .before .before .before .args .width) _ (c .text-length .ensures) (omega arith)
+
+returns-2 : tie.Need-returns-2
+returns-2 c = long-text (now (c .before .before .args .text)) (c .before .before .args .width) (omega arith)
+
+pub is-text-spec : {M : Type 1} → statement M
+is-text-spec = tie.close (tie.spec (λ c κs. search needs) returns returns-2)

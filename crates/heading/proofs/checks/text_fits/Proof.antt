@@ -1,0 +1,9 @@
+use borrow.Author.Needs.{needs}
+use Rattle.heading.proofs.checks.text_fits.Statement.{statement}
+use Rattle.heading.proofs.checks.text_fits.Tie as tie
+
+returns : tie.Need-returns
+returns c = λ y. rw (c .before .is-text .ensures (c .before .before .before .args .place)) at (c .demand .ensures y)
+
+pub text-fits-spec : {M : Type 1} → statement M
+text-fits-spec = tie.close (tie.spec (λ c κs. search needs) (λ c κs. search needs) returns)

@@ -1,0 +1,4 @@
+-- Laws that the functions' proofs cite.
+pub mod Low
+pub mod Store
+pub mod Points

@@ -1,0 +1,19 @@
+use Rattle.storing.proofs.Low.{put-parts}
+use borrow.Author.Needs.{needs}
+use Rattle.storing.proofs.numbers.put_u32.Statement.{statement}
+use Rattle.storing.proofs.numbers.put_u32.Tie as tie
+
+returns : tie.Need-returns
+returns c = rw (c .before .before .put-u162 .ensures, c .before .before .before .before .before .before .put-u16 .ensures) (put-parts 2 2 (c .before .before .before .before .before .before .before .before .before .args .out .now) (c .before .before .before .before .before .before .before .before .before .args .w) (c .before .before .before .before .before .before .before .before .before .args .x))
+
+pub put-u32-spec : {M : Type 1} → statement M
+put-u32-spec =
+    tie.close
+    (tie.spec
+    (λ c. search needs)
+    (λ c κs. search needs)
+    (λ c. search needs)
+    (λ c. search needs)
+    (λ c κs. search needs)
+    (λ c. search needs)
+    returns)

@@ -1,0 +1,8 @@
+-- Laws that the functions' proofs cite.
+pub mod Steps
+pub mod Moves
+pub mod Items
+pub mod Elements
+pub mod Parts
+pub mod Rows
+pub mod Tables

@@ -1,0 +1,30 @@
+use denote.Ref.{now}
+use lib.ListN.{drop}
+use borrow.Author.Tests.{ltb-true}
+use Rattle.fields.proofs.Chain.{as-checks}
+use Rattle.taking.proofs.Laws.Steps.{step-holds, then-on, then-stop}
+use Rattle.taking.specs.Items.{item-rules, valueRules}
+use borrow.Author.Needs.{needs}
+use Rattle.taking.proofs.items.item_checks.Statement.{statement}
+use Rattle.taking.proofs.items.item_checks.Tie as tie
+
+value-of-requires : tie.Need-value-of-requires
+value-of-requires c κs = ltb-true _ _ (step-holds _ _ _ (c .before .before .head-checks .result) (c .before .before .head-checks .ensures) (c .enum-told .given .1) .1 .1 .1 .0)
+
+returns : tie.Need-returns
+returns c = as-checks (item-rules (c .before .before .before .before .before .before .args .a) (drop (c .before .before .before .before .before .before .args .at) (now (c .before .before .before .before .before .before .args .bytes)))) (then-on _ _ _ (c .before .before .before .before .head-checks .result) (c .before .before .before .before .head-checks .ensures) (c .before .before .enum-told .given .1) _ _ (c .value-checks .ensures _))
+
+returns-2 : tie.Need-returns-2
+returns-2 c = as-checks (item-rules (c .before .before .before .before .before .args .a) (drop (c .before .before .before .before .before .args .at) (now (c .before .before .before .before .before .args .bytes)))) (then-stop _ _ _ (c .before .before .before .head-checks .result) (c .before .before .before .head-checks .ensures) _ (c .before .r .given .1) (valueRules (c .before .before .before .before .before .args .a) (drop (c .before .before .before .before .before .args .at) (now (c .before .before .before .before .before .args .bytes)))))
+
+pub item-checks-spec : {M : Type 1} → statement M
+item-checks-spec =
+    tie.close
+    (tie.spec
+    (λ c κs. search needs)
+    (λ c. search needs)
+    value-of-requires
+    (λ c κs. search needs)
+    (λ c. search needs)
+    returns
+    returns-2)

@@ -1,0 +1,26 @@
+use mathlib.Core.Bool.{not, _&&_, _||_}
+use Prim.Native.Nat.{_%_}
+use lib.Dec.{eqb, leb, ltb}
+use Rattle.layout.specs.Refusals.{SEMANTIC, TABLE}
+use Rattle.layout.specs.Walk.{must}
+use Rattle.taking.proofs.Laws.Steps.{link}
+use Rattle.fields.proofs.Chain.{_▸_, as-checks}
+use Rattle.taking.proofs.Laws.Items.{sizes-are}
+use borrow.Author.Needs.{needs}
+use Rattle.taking.proofs.items.size_checks.Statement.{statement}
+use Rattle.taking.proofs.items.size_checks.Tie as tie
+
+returns : tie.Need-returns
+returns c = λ y.
+    let a = c .before .before .before .before .before .before .args .a in
+    let k = c .before .before .before .before .before .before .args .k in
+    as-checks (sizes-are a k (c .before .before .before .before .before .before .args .left) (c .before .before .before .before .before .before .pre .1))
+    (link (must (ltb (a .size) 4294967296) TABLE 3) (c .before .before .before .before .before .demand .result) (c .before .before .before .before .before .demand .ensures y)
+    ▸ link (must (eqb (a .size) (k .size)) TABLE 3) (c .before .before .before .demand2 .result) (c .before .before .before .demand2 .ensures y)
+    ▸ link (must (not (k .long) || (eqb (a .size % 2) 0 && leb 2 (a .size))) SEMANTIC 3) (c .before .demand3 .result) (c .before .demand3 .ensures y)
+    ▸ link (must (leb (a .size) (c .before .before .before .before .before .before .args .left)) TABLE 3) (c .demand4 .result) (c .demand4 .ensures y))
+
+pub size-checks-spec : {M : Type 1} → statement M
+size-checks-spec =
+    tie.close
+    (tie.spec (λ c κs. search needs) (λ c κs. search needs) (λ c κs. search needs) (λ c κs. search needs) returns)

@@ -1,0 +1,12 @@
+use Rattle.fields.proofs.Chain.{_▸_}
+use Rattle.layout.specs.Writing.Parts.{firstRules}
+use borrow.Author.Needs.{needs}
+use Rattle.taking.proofs.parts.first_checks.Statement.{statement}
+use Rattle.taking.proofs.parts.first_checks.Tie as tie
+
+returns : tie.Need-returns
+unfolding firstRules
+returns c = c .before .before .demand .ensures _ ▸ c .before .feature .ensures ▸ c .demand2 .ensures _
+
+pub first-checks-spec : {M : Type 1} → statement M
+first-checks-spec = tie.close (tie.spec (λ c κs. search needs) (λ c κs. search needs) (λ c κs. search needs) returns)

@@ -1,0 +1,22 @@
+use native.Mathlib.Omega.{arith}
+use native.Mathlib.Nat.{add-zero}
+use Rattle.taking.proofs.Laws.Parts.{product-fits}
+use borrow.Author.Needs.{needs}
+use Rattle.taking.proofs.parts.part_length.Statement.{statement}
+use Rattle.taking.proofs.parts.part_length.Tie as tie
+
+mul-n : tie.Need-mul-n
+mul-n c = let l = product-fits (c .before .args .points) (c .point-size .result) (c .before .pre .0) (c .point-size .ensures .1) in omega (arith, l)
+
+add-result-2 : tie.Need-add-result-2
+add-result-2 c = let l = product-fits (c .before .before .args .points) (c .before .point-size .result) (c .before .before .pre .0) (c .before .point-size .ensures .1) in omega (arith, l)
+
+returns : tie.Need-returns
+returns c = let l = product-fits (c .before .before .args .points) (c .before .point-size .result) (c .before .before .pre .0) (c .before .point-size .ensures .1) in (rw (c .if1 .taken, ← (c .before .point-size .ensures .0)), omega (arith, l))
+
+returns-2 : tie.Need-returns-2
+returns-2 c = let l = product-fits (c .before .before .args .points) (c .before .point-size .result) (c .before .before .pre .0) (c .before .point-size .ensures .1) in (rw (c .if1 .left, ← (c .before .point-size .ensures .0), add-zero), omega (arith, l))
+
+pub part-length-spec : {M : Type 1} → statement M
+part-length-spec =
+    tie.close (tie.spec (λ c κs. search needs) mul-n (λ c. search needs) add-result-2 returns returns-2)

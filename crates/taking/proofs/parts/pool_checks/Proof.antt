@@ -1,0 +1,27 @@
+use mathlib.Core.Path.{ap, sym}
+use denote.Ref.{now}
+use lib.ListN.{length, drop, length-drop}
+use Rattle.fields.proofs.Chain.{as-checks}
+use Rattle.taking.specs.Parts.{textBy}
+use Rattle.taking.proofs.Laws.Steps.{then-on, then-stop}
+use borrow.Author.Needs.{needs}
+use Rattle.taking.proofs.parts.pool_checks.Statement.{statement}
+use Rattle.taking.proofs.parts.pool_checks.Tie as tie
+
+returns : tie.Need-returns
+returns c = λ y. then-on y _ _ (c .before .before .before .before .element-checks .result) (c .before .before .before .before .element-checks .ensures y) (c .before .before .enum-told .given .1) _ _ (as-checks (ap (λ k. textBy (c .before .before .before .before .before .before .before .args .s) (c .before .before .before .before .before .before .before .args .size) k) (sym (length-drop (c .before .before .before .before .before .before .before .args .p .byte) (now (c .before .before .before .before .before .before .before .args .bytes))))) (c .text-checks .ensures y))
+
+returns-2 : tie.Need-returns-2
+returns-2 c = λ y. then-stop y _ _ (c .before .before .before .element-checks .result) (c .before .before .before .element-checks .ensures y) _ (c .before .r .given .1) (textBy (c .before .before .before .before .before .before .args .s) (c .before .before .before .before .before .before .args .size) (length (drop (c .before .before .before .before .before .before .args .p .byte) (now (c .before .before .before .before .before .before .args .bytes)))))
+
+pub pool-checks-spec : {M : Type 1} → statement M
+pool-checks-spec =
+    tie.close
+    (tie.spec
+    (λ c κs. search needs)
+    (λ c. search needs)
+    (λ c. search needs)
+    (λ c κs. search needs)
+    (λ c. search needs)
+    returns
+    returns-2)

@@ -1,0 +1,14 @@
+use Rattle.fields.proofs.Chain.{_▸_}
+use Rattle.layout.specs.Writing.Rows.{nameRules}
+use borrow.Author.Needs.{needs}
+use Rattle.taking.proofs.rows.name_checks.Statement.{statement}
+use Rattle.taking.proofs.rows.name_checks.Tie as tie
+
+returns : tie.Need-returns
+unfolding nameRules
+returns c = λ y. c .before .before .before .before .before .before .demand .ensures y ▸ c .before .before .before .before .demand2 .ensures y ▸ c .before .before .demand3 .ensures y ▸ c .demand4 .ensures y
+
+pub name-checks-spec : {M : Type 1} → statement M
+name-checks-spec =
+    tie.close
+    (tie.spec (λ c κs. search needs) (λ c κs. search needs) (λ c κs. search needs) (λ c κs. search needs) returns)

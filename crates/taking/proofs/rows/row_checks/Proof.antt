@@ -1,0 +1,21 @@
+use mathlib.Core.List.{[], _∷_}
+use mathlib.Core.Path.{ap}
+use Rattle.fields.proofs.Chain.{_▸_, as-checks}
+use Rattle.layout.specs.Walk.{must}
+use borrow.Author.Needs.{needs}
+use Rattle.taking.proofs.rows.row_checks.Statement.{statement}
+use Rattle.taking.proofs.rows.row_checks.Tie as tie
+
+returns : tie.Need-returns
+returns c = as-checks (ap (λ b. must b 14 0 ∷ []) (c .before .before .before .before .room .ensures)) (c .before .before .before .demand .ensures _) ▸ c .before .before .name-checks .ensures _ ▸ c .before .reference-checks .ensures ▸ c .count-checks .ensures _
+
+pub row-checks-spec : {M : Type 1} → statement M
+row-checks-spec =
+    tie.close
+    (tie.spec
+    (λ c κs. search needs)
+    (λ c κs. search needs)
+    (λ c κs. search needs)
+    (λ c κs. search needs)
+    (λ c κs. search needs)
+    returns)

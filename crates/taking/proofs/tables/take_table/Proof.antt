@@ -1,0 +1,58 @@
+use Prim.Native.Nat.{_-_, _≤_}
+use native.Mathlib.Omega.{arith}
+use denote.Ref.{now}
+use lib.ListN.{length}
+use Rattle.taking.specs.Places.{At}
+use Rattle.taking.proofs.Laws.Tables.{all-bytes, Going, going-start, row-went, row-next, going-stop, going-turn, going-done, going-left}
+use borrow.Author.Needs.{needs}
+use Rattle.taking.proofs.tables.take_table.Statement.{statement}
+use Rattle.taking.proofs.tables.take_table.Tie as tie
+
+abbrev Inv-loop : tie.InvT-loop
+Inv-loop table elements bytes year p₀ records₀ p records = At table bytes p × (p .element ≤ length elements) × (records ≤ p .number) × Going year table elements bytes records p
+
+abbrev μ-loop : tie.MeasureT-loop
+μ-loop table elements bytes year p₀ records₀ p records = length table - p .number
+
+loop-holds : tie.Need-loop-holds Inv-loop μ-loop
+loop-holds c = (record { number = omega arith; byte = omega arith; length = omega arith; isBytes = all-bytes (now (c .before .before .before .args .bytes)) (λ i. omega (arith, c .shared-slice-known3 .given i)) }, omega arith, omega arith, going-start _ _ _ _)
+
+take-row-requires : tie.Need-take-row-requires Inv-loop μ-loop
+take-row-requires c κs = (c .before .before .loop .inv .0, c .before .before .loop .inv .1)
+
+returns : tie.Need-returns Inv-loop μ-loop
+returns c = going-stop (c .before .before .before .before .before .before .before .before .before .before .args .year) (now (c .before .before .before .before .before .before .before .before .before .before .args .table)) (now (c .before .before .before .before .before .before .before .before .before .before .args .elements)) (now (c .before .before .before .before .before .before .before .before .before .before .args .bytes)) _ _ (c .before .before .before .before .before .before .loop .inv .3) (c .before .before .before .before .before .before .loop .inv .0) (c .before .before .before .before .if1 .taken) (c .before .before .before .take-row .result) (c .before .before .before .take-row .ensures) _ (c .before .r .given .1)
+
+loop-less : tie.Need-loop-less Inv-loop μ-loop
+loop-less c =
+    let n = row-next (c .before .before .before .before .before .before .before .before .before .before .args .year) (now (c .before .before .before .before .before .before .before .before .before .before .args .table)) (now (c .before .before .before .before .before .before .before .before .before .before .args .elements)) (now (c .before .before .before .before .before .before .before .before .before .before .args .bytes)) _ _ (c .before .before .before .before .before .before .loop .inv .3) (c .before .before .before .before .before .before .loop .inv .0) (c .before .before .before .before .if1 .taken) (c .before .before .before .take-row .result) (c .before .before .before .take-row .ensures) _ (c .before .q .given .1) in
+    omega (arith, n)
+
+loop-again : tie.Need-loop-again Inv-loop μ-loop
+loop-again c =
+    let n = row-next (c .before .before .before .before .before .before .before .before .before .before .args .year) (now (c .before .before .before .before .before .before .before .before .before .before .args .table)) (now (c .before .before .before .before .before .before .before .before .before .before .args .elements)) (now (c .before .before .before .before .before .before .before .before .before .before .args .bytes)) _ _ (c .before .before .before .before .before .before .loop .inv .3) (c .before .before .before .before .before .before .loop .inv .0) (c .before .before .before .before .if1 .taken) (c .before .before .before .take-row .result) (c .before .before .before .take-row .ensures) _ (c .before .q .given .1) in
+    let w = row-went (c .before .before .before .before .before .before .before .before .before .before .args .year) (now (c .before .before .before .before .before .before .before .before .before .before .args .table)) (now (c .before .before .before .before .before .before .before .before .before .before .args .elements)) (now (c .before .before .before .before .before .before .before .before .before .before .args .bytes)) _ _ (c .before .before .before .before .before .before .loop .inv .3) (c .before .before .before .before .before .before .loop .inv .0) (c .before .before .before .before .if1 .taken) (c .before .before .before .take-row .result) (c .before .before .before .take-row .ensures) _ (c .before .q .given .1) in
+    (w .at, w .element (c .before .before .before .before .before .before .loop .inv .1), omega (arith, n), going-turn (c .before .before .before .before .before .before .before .before .before .before .args .year) (now (c .before .before .before .before .before .before .before .before .before .before .args .table)) (now (c .before .before .before .before .before .before .before .before .before .before .args .elements)) (now (c .before .before .before .before .before .before .before .before .before .before .args .bytes)) _ _ (c .before .before .before .before .before .before .loop .inv .3) (c .before .before .before .before .before .before .loop .inv .0) (c .before .before .before .before .if1 .taken) (c .before .before .before .take-row .result) (c .before .before .before .take-row .ensures) _ (c .before .q .given .1))
+
+returns-2 : tie.Need-returns-2 Inv-loop μ-loop
+returns-2 c = going-done (c .before .before .before .before .before .before .before .before .before .args .year) (now (c .before .before .before .before .before .before .before .before .before .args .table)) (now (c .before .before .before .before .before .before .before .before .before .args .elements)) (now (c .before .before .before .before .before .before .before .before .before .args .bytes)) _ _ (c .before .before .before .before .before .loop .inv .3) (c .before .before .before .before .before .loop .inv .0) (c .before .before .before .if1 .left) (c .if2 .taken)
+
+returns-3 : tie.Need-returns-3 Inv-loop μ-loop
+returns-3 c = going-left (c .before .before .before .before .before .before .before .before .before .args .year) (now (c .before .before .before .before .before .before .before .before .before .args .table)) (now (c .before .before .before .before .before .before .before .before .before .args .elements)) (now (c .before .before .before .before .before .before .before .before .before .args .bytes)) _ _ (c .before .before .before .before .before .loop .inv .3) (c .before .before .before .before .before .loop .inv .0) (c .before .before .before .if1 .left) (c .if2 .left)
+
+pub take-table-spec : {M : Type 1} → statement M
+take-table-spec =
+    tie.close
+    (tie.spec
+    Inv-loop
+    μ-loop
+    loop-holds
+    take-row-requires
+    (λ c. search needs)
+    (λ c. search needs)
+    returns
+    (λ c. omega arith)
+    loop-less
+    loop-again
+    returns-2
+    returns-3)

@@ -1,0 +1,208 @@
+// A sheet is written into a lent slice. Two passes: the first checks all and gives the length, the second writes.
+ghost use mathlib.Core.Path.{_≡_};
+ghost use Prim.Native.Nat.{ℕ, _<_, _^_};
+ghost use lib.ListN.{length};
+ghost use lib.Seq.{sets};
+ghost use Rattle.heading.specs.Heads.{headOf};
+ghost use Rattle.layout.specs.Answers.Calls.{written, lent};
+ghost use Rattle.layout.specs.Answers.Enums.{writtenOf};
+ghost use Rattle.layout.specs.Layout.Encode.{encode};
+ghost use Rattle.layout.specs.Layout.Fine.{Fine};
+ghost use Rattle.layout.specs.Sheet.{Sheet};
+ghost use Rattle.layout.specs.Walk.{answer, upTo};
+ghost use Rattle.layout.specs.Writing.Sheets.{tableWalk};
+ghost use Rattle.layout.specs.Writing.Tables.{flatten, table as tableOf};
+ghost use Rattle.writing.specs.Ready.{measuredOf, Ready, writtenAt};
+ghost use Rattle.writing.specs.Sheets.{theSheet};
+use emitting::rows::emit_rows;
+use fields::steps::Step;
+use heading::bytes::emit_head;
+use heading::bytes::put_sum;
+use heading::checks::check_head;
+use layout::Refusal;
+use layout::Written;
+use taking::tables::Rows;
+use taking::tables::Totals;
+use taking::tables::take_table;
+use views::setting::Made;
+use views::setting::Setting;
+
+// Pass 1: the head by place in the sheet, then the table, then TOO LONG. The scale is any number.
+fn measure(
+    date: &[u8],
+    designation: &[u8],
+    title: &[u8],
+    rest: &[u8],
+    designation2: &[u8],
+    carried: &[u8],
+    table: &[u64],
+    elements: &[u64],
+    bytes: &[u8],
+    year: u32,
+) -> Rows
+    requires { ⌜ (length (now rest) ≡ 304) × (length (now carried) ≡ 4) ⌝ }
+    ensures { λ r. ⌜ ((scale : ℕ) → scale < 256 ^ 4 → r ≡ measuredOf (answer (upTo year) (tableWalk
+        (headOf (now (date .entry)) (now (designation .entry)) scale (now (title .entry)) (now (rest .entry)) (now (designation2 .entry)) (now (carried .entry)))
+        (tableOf (now (table .entry)) (now (elements .entry)) (now (bytes .entry)))))) ⌝ }
+{
+    match check_head(date, designation, title, rest, designation2, carried, year) {
+        Step::Fine => match take_table(table, elements, bytes, year) {
+            Rows::Fine(t) => {
+                if 16776764 < t.length {
+                    return Rows::Refused(Refusal {
+                        number: 1,
+                        place: 0,
+                        year: 0,
+                    });
+                }
+                Rows::Fine(t)
+            }
+            Rows::Refused(r) => Rows::Refused(r),
+        },
+        Step::Refused(r) => Rows::Refused(r),
+    }
+}
+
+// Pass 2: head, records, and at last the sum, of what has just been written.
+fn emit_sheet(
+    date: &[u8],
+    designation: &[u8],
+    scale: u32,
+    title: &[u8],
+    rest: &[u8],
+    designation2: &[u8],
+    carried: &[u8],
+    table: &[u64],
+    elements: &[u64],
+    bytes: &[u8],
+    t: Totals,
+    out: &mut [u8],
+)
+    requires { ⌜ Ready (headOf (now date) (now designation) scale (now title) (now rest) (now designation2) (now carried))
+        (tableOf (now table) (now elements) (now bytes)) t (length (now out)) ⌝ }
+    ensures { λ _. ⌜ ((u : Sheet) → Fine u → u .head ≡ headOf (now (date .entry)) (now (designation .entry)) scale (now (title .entry))
+        (now (rest .entry)) (now (designation2 .entry)) (now (carried .entry))
+        → flatten (u .records) ≡ tableOf (now (table .entry)) (now (elements .entry)) (now (bytes .entry))
+        → now (out .exit) ≡ sets (now (out .entry)) 0 (encode u)) ⌝ }
+{
+    let count = t.records as u32;
+    emit_head(
+        date,
+        designation,
+        scale,
+        title,
+        rest,
+        designation2,
+        carried,
+        count,
+        out,
+    );
+    emit_rows(table, elements, bytes, t.records, out, 452);
+    put_sum(out, 452 + t.length);
+}
+
+// At a year that is a setting.
+fn write_at(
+    date: &[u8],
+    designation: &[u8],
+    scale: u32,
+    title: &[u8],
+    rest: &[u8],
+    designation2: &[u8],
+    carried: &[u8],
+    table: &[u64],
+    elements: &[u64],
+    bytes: &[u8],
+    year: u32,
+    out: &mut [u8],
+) -> Written
+    requires { ⌜ (length (now rest) ≡ 304) × (length (now carried) ≡ 4) ⌝ }
+    ensures answers { λ r. ⌜ r ≡ writtenOf (writtenAt year
+        (headOf (now (date .entry)) (now (designation .entry)) scale (now (title .entry)) (now (rest .entry)) (now (designation2 .entry)) (now (carried .entry)))
+        (tableOf (now (table .entry)) (now (elements .entry)) (now (bytes .entry))) (length (now (out .entry)))) ⌝ }
+    ensures sheet { λ _. ⌜ now (out .exit) ≡ lent theSheet (writtenAt year
+        (headOf (now (date .entry)) (now (designation .entry)) scale (now (title .entry)) (now (rest .entry)) (now (designation2 .entry)) (now (carried .entry)))
+        (tableOf (now (table .entry)) (now (elements .entry)) (now (bytes .entry))) (length (now (out .entry)))) (now (out .entry)) ⌝ }
+{
+    match measure(
+        date,
+        designation,
+        title,
+        rest,
+        designation2,
+        carried,
+        table,
+        elements,
+        bytes,
+        year,
+    ) {
+        Rows::Fine(t) => {
+            let n = 452 + t.length;
+            if out.len() < n {
+                return Written::Refused(Refusal {
+                    number: 15,
+                    place: 0,
+                    year: 0,
+                });
+            }
+            emit_sheet(
+                date,
+                designation,
+                scale,
+                title,
+                rest,
+                designation2,
+                carried,
+                table,
+                elements,
+                bytes,
+                t,
+                out,
+            );
+            Written::Length(n)
+        }
+        Rows::Refused(r) => Written::Refused(r),
+    }
+}
+
+// The sheet of a head and a record table goes to the start of the slice. Nothing is written before it is known that all of it is right
+// and fits; a text is refused and never shortened. The setting is made anew, so that the answer does not rest on who made it.
+pub fn write(
+    date: &[u8],
+    designation: &[u8],
+    scale: u32,
+    title: &[u8],
+    rest: &[u8; 304],
+    designation2: &[u8],
+    carried: &[u8; 4],
+    table: &[u64],
+    elements: &[u64],
+    bytes: &[u8],
+    at: Setting,
+    out: &mut [u8],
+) -> Written
+    ensures answers { λ r. ⌜ r ≡ writtenOf (written (at .year)
+        (headOf (now (date .entry)) (now (designation .entry)) scale (now (title .entry)) (now (rest .entry)) (now (designation2 .entry)) (now (carried .entry)))
+        (tableOf (now (table .entry)) (now (elements .entry)) (now (bytes .entry))) (length (now (out .entry)))) ⌝ }
+    ensures sheet { λ _. ⌜ now (out .exit) ≡ lent theSheet (written (at .year)
+        (headOf (now (date .entry)) (now (designation .entry)) scale (now (title .entry)) (now (rest .entry)) (now (designation2 .entry)) (now (carried .entry)))
+        (tableOf (now (table .entry)) (now (elements .entry)) (now (bytes .entry))) (length (now (out .entry)))) (now (out .entry)) ⌝ }
+{
+    match Setting::new(at.year()) {
+        Made::At(known) => write_at(
+            date,
+            designation,
+            scale,
+            title,
+            rest,
+            designation2,
+            carried,
+            table,
+            elements,
+            bytes,
+            known.year(),
+            out,
+        ),
+        Made::Refused(r) => Written::Refused(r),
+    }
+}
