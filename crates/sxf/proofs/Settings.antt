@@ -1,19 +1,25 @@
 -- A call takes the year as a number: what the setting that is made of it answers, or that there is none.
 use Prim.Native.Nat.{ℕ}
 use mathlib.Core.List.{List}
+use lib.ListN.{length}
 use mathlib.Core.Path.{_≡_, refl, sym, ap, subst, _∙_}
-use Rattle.layout.specs.Answers.Calls.{settingOf, reading, roomy, unfolded, lent}
-use Rattle.layout.specs.Answers.Enums.{checkedOf}
+use Rattle.layout.specs.Answers.Calls.{settingOf, reading, roomy, unfolded, lent, written}
+use Rattle.layout.specs.Answers.Enums.{checkedOf, writtenOf}
 use Rattle.layout.specs.declared.Checked.the-variants as Check
 use Rattle.layout.specs.declared.Checked.{Checked}
 use Rattle.layout.specs.declared.Refusal.{Refusal}
-use Rattle.layout.specs.Sheet.{Table}
+use Rattle.layout.specs.declared.Written.the-variants as Write
+use Rattle.layout.specs.declared.Written.{Written}
+use Rattle.layout.specs.Sheet.{Head, Table}
 use Rattle.layout.specs.Walk.{Answer}
 use Rattle.reading.proofs.Settings.{at-unknown}
 use Rattle.reading.proofs.Unfolding.{refused-right}
 use Rattle.reading.specs.Rooms.{rooms, theNumbers, theElements, theBytes}
-use Rattle.sxf.specs.Answers.{checkedRow}
+use Rattle.sxf.specs.Answers.{checkedRow, writtenRow}
 use Rattle.sxf.specs.declared.sheets.SxfChecked.{SxfChecked}
+use Rattle.sxf.specs.declared.tables.SxfWritten.{SxfWritten}
+use Rattle.writing.proofs.Answered.{at-unknown as written-unknown}
+use Rattle.writing.specs.Sheets.{theSheet}
 use Rattle.views.proofs.Nine.{made-nine}
 use Rattle.views.specs.Settings.{madeOf}
 use Rattle.views.specs.declared.setting.Made.the-variants.{At, Refused}
@@ -46,3 +52,18 @@ pub unfold-unknown : (y : ℕ) (q : Refusal) (s t₀ e₀ b₀ : List ℕ) (m : 
 unfold-unknown y q s t₀ e₀ b₀ m r e a h =
     let u = refused-right y s t₀ e₀ b₀ q (Check.Refused q) (at-unknown y y q s m refl e a) refl in
     (h ∙ ap checkedRow (u .0), u .1)
+
+-- what `sxf_write` ensures, where the writer's contract is of the setting's year
+pub write-known : (y : ℕ) (k : Setting) (h : Head) (t : Table) (o out : List ℕ) (m : Made) (c : Written) (r : SxfWritten) → m ≡ madeOf (settingOf y) → m ≡ At k
+    → c ≡ writtenOf (written (k .year) h t (length o)) → out ≡ lent theSheet (written (k .year) h t (length o)) o → r ≡ writtenRow c
+    → (r ≡ writtenRow (writtenOf (written y h t (length o)))) × (out ≡ lent theSheet (written y h t (length o)) o)
+write-known y k h t o out m c r e a answers sheet q =
+    subst (λ z. (r ≡ writtenRow (writtenOf (written z h t (length o)))) × (out ≡ lent theSheet (written z h t (length o)) o)) (made-nine y k (sym e ∙ a) .0)
+    (q ∙ ap writtenRow answers, sheet)
+
+pub write-unknown : (y : ℕ) (q : Refusal) (h : Head) (t : Table) (o : List ℕ) (m : Made) (r : SxfWritten) → m ≡ madeOf (settingOf y) → m ≡ Refused q
+    → r ≡ writtenRow (Write.Refused q)
+    → (r ≡ writtenRow (writtenOf (written y h t (length o)))) × (o ≡ lent theSheet (written y h t (length o)) o)
+write-unknown y q h t o m r e a z =
+    let u = written-unknown y y h t o m refl e q a in
+    (z ∙ ap writtenRow (u .0), u .1)

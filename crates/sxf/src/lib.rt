@@ -1,6 +1,8 @@
-// The library as programs in C and Rust hold it: thin functions over the public calls of `reading`, their answers as structs by value.
+// The library as programs in C and Rust hold it: thin functions over the public calls of `reading` and `writing`, their answers as structs
+// by value.
 //
-// Relied on: `reading`, and that the caller lends what its declaration says (a slice is a pointer and a length, a `&mut` one is lent to
-// this call alone). Promised: the contracts of `reading`, with the year as a number and `number` 0 for success; no call has a
+// Relied on: `reading` and `writing`, and that the caller lends what its declaration says (a slice is a pointer and a length, a `&mut` one is lent to
+// this call alone). Promised: the contracts of these two, with the year as a number and `number` 0 for success; no call has a
 // `requires`, and two results that meet a contract are equal (proofs/Once.antt).
 pub mod sheets;
+pub mod tables;

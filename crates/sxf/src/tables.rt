@@ -1,0 +1,82 @@
+// A sheet is written from a head and a record table, for a year.
+ghost use mathlib.Core.Path.{_≡_};
+ghost use lib.ListN.{length};
+ghost use Rattle.heading.specs.Heads.{headOf};
+ghost use Rattle.layout.specs.Answers.Calls.{written, lent};
+ghost use Rattle.layout.specs.Answers.Enums.{writtenOf};
+ghost use Rattle.layout.specs.Writing.Tables.{table as tableOf};
+ghost use Rattle.sxf.specs.Answers.{writtenRow};
+ghost use Rattle.writing.specs.Sheets.{theSheet};
+use layout::Written;
+use writing::setting::Made;
+use writing::setting::Setting;
+use writing::sheets;
+
+// number 0: written, so many bytes. Otherwise the refusal, and the length is 0.
+#[repr(C)]
+pub struct SxfWritten {
+    pub number: u64,
+    pub place: u64,
+    pub year: u64,
+    pub length: u64,
+}
+
+fn written_row(w: Written) -> SxfWritten
+    ensures { λ r. ⌜ r ≡ writtenRow w ⌝ }
+{
+    match w {
+        Written::Length(n) => SxfWritten {
+            number: 0,
+            place: 0,
+            year: 0,
+            length: n as u64,
+        },
+        Written::Refused(r) => SxfWritten {
+            number: r.number as u64,
+            place: r.place as u64,
+            year: r.year as u64,
+            length: 0,
+        },
+    }
+}
+
+#[no_mangle]
+pub extern "C" fn sxf_write(
+    year: u32,
+    date: &[u8],
+    designation: &[u8],
+    scale: u32,
+    title: &[u8],
+    rest: &[u8; 304],
+    designation2: &[u8],
+    flags: &[u8; 4],
+    table: &[u64],
+    elements: &[u64],
+    bytes: &[u8],
+    out: &mut [u8],
+) -> SxfWritten
+    ensures answers { λ r. ⌜ r ≡ writtenRow (writtenOf (written year
+        (headOf (now (date .entry)) (now (designation .entry)) scale (now (title .entry)) (now (rest .entry)) (now (designation2 .entry)) (now (flags .entry)))
+        (tableOf (now (table .entry)) (now (elements .entry)) (now (bytes .entry))) (length (now (out .entry))))) ⌝ }
+    ensures sheet { λ _. ⌜ now (out .exit) ≡ lent theSheet (written year
+        (headOf (now (date .entry)) (now (designation .entry)) scale (now (title .entry)) (now (rest .entry)) (now (designation2 .entry)) (now (flags .entry)))
+        (tableOf (now (table .entry)) (now (elements .entry)) (now (bytes .entry))) (length (now (out .entry)))) (now (out .entry)) ⌝ }
+{
+    match Setting::new(year) {
+        Made::At(at) => written_row(sheets::write(
+            date,
+            designation,
+            scale,
+            title,
+            rest,
+            designation2,
+            flags,
+            table,
+            elements,
+            bytes,
+            at,
+            out,
+        )),
+        Made::Refused(r) => written_row(Written::Refused(r)),
+    }
+}
