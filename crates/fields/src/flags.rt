@@ -5,6 +5,7 @@ ghost use Prim.Native.Nat.{ℕ, _+_, _≤_, _<_};
 ghost use lib.ListN.{length};
 ghost use Rattle.fields.specs.Flags.{restRules, carriedRules};
 ghost use Rattle.fields.specs.Steps.{Next};
+ghost use Rattle.fields.specs.declared.steps.Step.the-variants.{Fine};
 ghost use Rattle.layout.specs.Shared.Carried.{restChecks, carriedChecks};
 ghost use Rattle.layout.specs.Shared.Reference.{referenceChecks};
 use crate::numbers;
@@ -13,7 +14,38 @@ use crate::steps::demand;
 use crate::steps::feature;
 use crate::texts;
 
-// The reference bytes, at place + k, place + l and place + m.
+// The reference bytes, at place + k, place + l and place + m, with nothing refused before them: at each link the compiler then knows
+// what came before, and bytes that are fine take no branch on the step.
+fn reference_rules(
+    b20: u8,
+    b21: u8,
+    b22: u8,
+    place: usize,
+    k: usize,
+    l: usize,
+    m: usize,
+    year: u32,
+) -> Step
+    requires { ⌜ (place + k < 18446744073709551616) × (place + l < 18446744073709551616) × (place + m < 18446744073709551616) ⌝ }
+    ensures { λ r. ⌜ Next Fine year place (referenceChecks k l m (record { byte20 = b20; byte21 = b21; byte22 = b22 })) r ⌝ }
+{
+    let loc = b20 % 16;
+    let a = demand(Step::Fine, (loc <= 5) & (b20 / 32 % 8 == 0), 7, place, k);
+    let a = feature(a, b20 / 16 % 2 == 1, 2016, place, k, year);
+    let a = feature(a, b21 % 2 == 1, 2015, place, l, year);
+    let a = feature(a, b21 / 8 % 2 == 1, 2008, place, l, year);
+    let a = feature(a, b21 / 16 % 2 == 1, 2008, place, l, year);
+    let a = feature(a, b21 / 32 % 2 == 1, 2014, place, l, year);
+    let a = feature(a, b21 / 64 % 2 == 1, 2014, place, l, year);
+    let a = feature(a, b21 / 128 % 2 == 1, 2017, place, l, year);
+    let a = demand(a, !(b21 / 8 % 2 == 1), 9, place, l);
+    let text = (!(b22 / 8 % 2 == 1) | (loc == 3)) | (loc == 5);
+    let a = demand(a, !(b22 % 2 == 1) & text, 7, place, m);
+    let a = feature(a, !(b22 / 64 % 4 == 0), 2004, place, m, year);
+    demand(a, !(b22 / 16 % 2 == 1), 9, place, m)
+}
+
+// The step so far; then the reference bytes.
 pub fn reference(
     so_far: Step,
     b20: u8,
@@ -28,20 +60,10 @@ pub fn reference(
     requires { ⌜ (place + k < 18446744073709551616) × (place + l < 18446744073709551616) × (place + m < 18446744073709551616) ⌝ }
     ensures { λ r. ⌜ Next «so_far» year place (referenceChecks k l m (record { byte20 = b20; byte21 = b21; byte22 = b22 })) r ⌝ }
 {
-    let loc = b20 % 16;
-    let a = demand(so_far, (loc <= 5) & (b20 / 32 % 8 == 0), 7, place, k);
-    let a = feature(a, b20 / 16 % 2 == 1, 2016, place, k, year);
-    let a = feature(a, b21 % 2 == 1, 2015, place, l, year);
-    let a = feature(a, b21 / 8 % 2 == 1, 2008, place, l, year);
-    let a = feature(a, b21 / 16 % 2 == 1, 2008, place, l, year);
-    let a = feature(a, b21 / 32 % 2 == 1, 2014, place, l, year);
-    let a = feature(a, b21 / 64 % 2 == 1, 2014, place, l, year);
-    let a = feature(a, b21 / 128 % 2 == 1, 2017, place, l, year);
-    let a = demand(a, !(b21 / 8 % 2 == 1), 9, place, l);
-    let text = (!(b22 / 8 % 2 == 1) | (loc == 3)) | (loc == 5);
-    let a = demand(a, !(b22 % 2 == 1) & text, 7, place, m);
-    let a = feature(a, !(b22 / 64 % 4 == 0), 2004, place, m, year);
-    demand(a, !(b22 / 16 % 2 == 1), 9, place, m)
+    match so_far {
+        Step::Fine => reference_rules(b20, b21, b22, place, k, l, m, year),
+        Step::Refused(_) => so_far,
+    }
 }
 
 // The rest of the passport, from what stands in it; north and east say whether an offset has a byte that is not zero.

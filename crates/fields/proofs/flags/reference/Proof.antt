@@ -1,43 +1,15 @@
-use native.Mathlib.Omega.{arith}
-use Rattle.fields.proofs.Chain.{_▸_}
-use Rattle.layout.specs.Shared.Reference.{byte20, byte21, byte22, referenceChecks}
+use mathlib.Core.Path.{refl}
 use borrow.Author.Needs.{needs}
+use Rattle.fields.specs.Steps.{afterOf}
 use Rattle.fields.proofs.flags.reference.Statement.{statement}
 use Rattle.fields.proofs.flags.reference.Tie as tie
 
-demand-requires-4 : tie.Need-demand-requires-4
-demand-requires-4 c κs = c .before .before .before .before .before .before .before .before .before .before .before .pre .2
-
 returns : tie.Need-returns
-unfolding referenceChecks byte20 byte21 byte22
-returns c =
-    c .before .before .before .before .before .before .before .before .before .before .before .demand .ensures _
-    ▸ c .before .before .before .before .before .before .before .before .before .before .feature .ensures
-    ▸ c .before .before .before .before .before .before .before .before .before .feature2 .ensures
-    ▸ c .before .before .before .before .before .before .before .before .feature3 .ensures
-    ▸ c .before .before .before .before .before .before .before .feature4 .ensures
-    ▸ c .before .before .before .before .before .before .feature5 .ensures
-    ▸ c .before .before .before .before .before .feature6 .ensures
-    ▸ c .before .before .before .before .feature7 .ensures
-    ▸ c .before .before .before .demand2 .ensures _
-    ▸ c .before .before .demand3 .ensures _
-    ▸ c .before .feature8 .ensures
-    ▸ c .demand4 .ensures _
+returns c = rw (c .before .enum-told .given .1) (c .reference-rules .ensures)
+
+returns-2 : tie.Need-returns-2
+unfolding afterOf
+returns-2 c = rw (c .enum-told2 .given .1) record { is = refl }
 
 pub reference-spec : {M : Type 1} → statement M
-reference-spec =
-    tie.close
-    (tie.spec
-    (λ c κs. search needs)
-    (λ c κs. search needs)
-    (λ c κs. search needs)
-    (λ c κs. search needs)
-    (λ c κs. search needs)
-    (λ c κs. search needs)
-    (λ c κs. search needs)
-    (λ c κs. search needs)
-    (λ c κs. search needs)
-    (λ c κs. search needs)
-    (λ c κs. search needs)
-    demand-requires-4
-    returns)
+reference-spec = tie.close (tie.spec (λ c. search needs) (λ c κs. search needs) (λ c. search needs) returns returns-2)
