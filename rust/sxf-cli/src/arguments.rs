@@ -1,4 +1,5 @@
 //! The command line.
+use crate::failure::told;
 use clap::error::ErrorKind;
 use clap::{Parser, Subcommand};
 use std::path::PathBuf;
@@ -92,8 +93,7 @@ pub fn parse() -> Result<Command, ExitCode> {
             ErrorKind::DisplayHelpOnMissingArgumentOrSubcommand => "no command is given".to_string(),
             _ => one_line(&error.to_string()),
         };
-        eprintln!("sxf: {what}; see sxf --help");
-        ExitCode::from(2)
+        told(&format!("{what}; see sxf --help"), 2)
     })
 }
 

@@ -1,6 +1,6 @@
 //! What goes wrong, and how it is told: one line on standard error, and the exit status.
 use std::fmt::Display;
-use std::io;
+use std::io::{self, Write};
 use std::path::Path;
 use std::process::ExitCode;
 use sxf::Refusal;
@@ -32,8 +32,9 @@ impl Failure {
     }
 }
 
-fn told(line: &str, status: u8) -> ExitCode {
-    eprintln!("sxf: {line}");
+/// One line on standard error. Where even that cannot be written, the exit status is left to tell.
+pub fn told(line: &str, status: u8) -> ExitCode {
+    let _ = writeln!(io::stderr(), "sxf: {line}");
     ExitCode::from(status)
 }
 

@@ -1,7 +1,7 @@
 //! A file is written whole or not at all.
 use crate::failure::Failure;
 use std::ffi::OsString;
-use std::fs::{self, File, OpenOptions};
+use std::fs::{self, File, OpenOptions, Permissions};
 use std::io::{self, Write};
 use std::path::{Path, PathBuf};
 use std::process;
@@ -12,12 +12,13 @@ pub fn whole(file: &Path, bytes: &[u8]) -> Result<(), Failure> {
 }
 
 fn written(file: &Path, bytes: &[u8]) -> io::Result<()> {
+    let (file, permissions) = target(file)?;
     let folder = match file.parent() {
         Some(parent) if parent != Path::new("") => parent,
         _ => Path::new("."),
     };
-    let (temporary, beside) = create(folder, file)?;
-    let renamed = fill(beside, bytes).and_then(|()| fs::rename(&temporary, file));
+    let (temporary, beside) = create(folder, &file)?;
+    let renamed = fill(beside, bytes, permissions).and_then(|()| fs::rename(&temporary, &file));
     if renamed.is_err() {
         // The first error is the one to tell.
         let _ = fs::remove_file(&temporary);
@@ -27,7 +28,20 @@ fn written(file: &Path, bytes: &[u8]) -> io::Result<()> {
     Ok(())
 }
 
-fn fill(mut file: File, bytes: &[u8]) -> io::Result<()> {
+/// The file to put in place, behind links, and the permissions it has if it is there. A device or a folder is not put away for a sheet.
+fn target(file: &Path) -> io::Result<(PathBuf, Option<Permissions>)> {
+    match fs::metadata(file) {
+        Ok(found) if found.is_file() => Ok((fs::canonicalize(file)?, Some(found.permissions()))),
+        Ok(_) => Err(io::Error::new(io::ErrorKind::InvalidInput, "it is there and is no regular file")),
+        Err(error) if error.kind() == io::ErrorKind::NotFound => Ok((file.to_path_buf(), None)),
+        Err(error) => Err(error),
+    }
+}
+
+fn fill(mut file: File, bytes: &[u8], permissions: Option<Permissions>) -> io::Result<()> {
+    if let Some(permissions) = permissions {
+        file.set_permissions(permissions)?;
+    }
     file.write_all(bytes)?;
     file.sync_all()
 }

@@ -216,7 +216,7 @@ fn a_file_that_cannot_be_written_leaves_nothing_behind() {
     let folder = Folder::new("target");
     let table = on("table", &sample("Q"), &[]).stdout;
     fs::create_dir(folder.file("taken")).expect("a folder");
-    for target in [folder.file("none").join("q.sxf"), folder.file("taken"), folder.file("..")] {
+    for target in [folder.file("none").join("q.sxf"), folder.file("taken"), folder.file(".."), PathBuf::from("/dev/null")] {
         let output = write(&table, &target, &[]);
         assert_eq!(status(&output), 2, "{}", target.display());
         assert!(told(&output).contains("cannot be written: "));
@@ -234,6 +234,20 @@ fn a_refused_table_leaves_the_file_as_it_was() {
     assert_eq!(fs::read(&file).expect("the file"), b"what was there");
     assert_eq!(status(&write(&changed("[3,4]", "[3,65535]"), &file, &[])), 0);
     assert_eq!(fs::read(&file).expect("the file").len(), 494);
+}
+
+#[cfg(unix)]
+#[test]
+fn a_file_behind_a_link_is_replaced_with_its_permissions() {
+    use std::os::unix::fs::{symlink, PermissionsExt};
+    let folder = Folder::new("link");
+    let (file, link) = (folder.file("q.sxf"), folder.file("link.sxf"));
+    fs::write(&file, b"old").expect("a file");
+    fs::set_permissions(&file, fs::Permissions::from_mode(0o600)).expect("permissions");
+    symlink("q.sxf", &link).expect("a link");
+    assert_eq!(status(&write(&on("table", &sample("Q"), &[]).stdout, &link, &[])), 0);
+    assert_eq!(fs::metadata(&file).map(|found| (found.len(), found.permissions().mode() & 0o777)).expect("the file"), (494, 0o600));
+    assert!(fs::symlink_metadata(&link).expect("the link").is_symlink());
 }
 
 #[test]

@@ -176,11 +176,11 @@ pub enum Number {
 }
 
 impl Number {
-    /// Its value as a double, exact for all that is stored; none for a NaN.
+    /// Its value as a double, exact for all that a sheet can hold; none for a NaN, or a whole number that no element holds.
     pub fn value(self) -> Option<f64> {
         match self {
-            // Integers of a sheet have at most 32 bits.
-            Number::Whole(n) => i32::try_from(n).ok().map(f64::from).or_else(|| u16::try_from(n).ok().map(f64::from)),
+            // Integers of a sheet have at most 32 bits, sign and all.
+            Number::Whole(n) => i32::try_from(n).ok().map(f64::from),
             Number::Single(n) => Some(f64::from(n)),
             Number::Double(n) => Some(n),
             Number::NotNumber(_) => None,

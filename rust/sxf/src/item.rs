@@ -138,14 +138,23 @@ impl<'a> Items<'a> {
     }
 }
 
+impl<'a> Items<'a> {
+    fn taken(&self) -> Option<(Item<'a>, Items<'a>)> {
+        let (&[code, kind, scale, length], numbers) = self.numbers.split_first()?;
+        let (bytes, values) = self.values.split_at_checked(usize::try_from(length).ok()?)?;
+        let item =
+            Item { code: u16::try_from(code).ok()?, kind: u8::try_from(kind).ok()?, scale: u8::try_from(scale).ok()?, bytes };
+        Some((item, Items { numbers, values }))
+    }
+}
+
 impl<'a> Iterator for Items<'a> {
     type Item = Item<'a>;
 
     fn next(&mut self) -> Option<Item<'a>> {
-        let (&[code, kind, scale, length], numbers) = self.numbers.split_first()?;
-        let (bytes, values) = self.values.split_at_checked(usize::try_from(length).ok()?)?;
-        (self.numbers, self.values) = (numbers, values);
-        Some(Item { code: u16::try_from(code).ok()?, kind: u8::try_from(kind).ok()?, scale: u8::try_from(scale).ok()?, bytes })
+        let (item, rest) = self.taken()?;
+        *self = rest;
+        Some(item)
     }
 }
 

@@ -51,19 +51,18 @@ pub struct Points<'a> {
 }
 
 impl Points<'_> {
-    fn element(&mut self) -> Option<u64> {
-        let (first, rest) = self.elements.split_first()?;
-        self.elements = rest;
-        Some(*first)
-    }
-
-    fn coordinate(&mut self) -> Option<Coordinate> {
-        let bits = self.element()?;
-        Some(self.unit.coordinate(self.planar.number(bits)?))
-    }
-
     fn elements_of_a_point(&self) -> usize {
         2 + usize::from(self.height.is_some())
+    }
+
+    fn point(&self, elements: &[u64]) -> Option<Point> {
+        let (&[x, y], height) = elements.split_first_chunk()?;
+        let planar = |bits| Some(self.unit.coordinate(self.planar.number(bits)?));
+        let height = match (self.height, height) {
+            (Some(kind), [bits]) => Some(Height::new(kind.number(*bits)?)),
+            _ => None,
+        };
+        Some(Point { x: planar(x)?, y: planar(y)?, height })
     }
 }
 
@@ -71,16 +70,11 @@ impl Iterator for Points<'_> {
     type Item = Point;
 
     fn next(&mut self) -> Option<Point> {
-        let x = self.coordinate()?;
-        let y = self.coordinate()?;
-        let height = match self.height {
-            None => None,
-            Some(kind) => {
-                let bits = self.element()?;
-                Some(Height::new(kind.number(bits)?))
-            }
-        };
-        Some(Point { x, y, height })
+        let (point, rest) = self.elements.split_at_checked(self.elements_of_a_point())?;
+        let point = self.point(point);
+        // What is no point ends the iteration for good.
+        self.elements = if point.is_some() { rest } else { &[] };
+        point
     }
 
     fn size_hint(&self) -> (usize, Option<usize>) {

@@ -172,12 +172,12 @@ impl<'a> Iterator for Records<'a> {
     /// A record starts where the one before it ends, and its total length stands at +4. To ask the library for each would check the whole
     /// sheet each time.
     fn next(&mut self) -> Option<Record<'a>> {
-        let row = self.rows.next()?;
+        let mut rows = self.rows;
+        let row = rows.next()?;
         let total = self.sheet.get(self.place..)?.get(4..)?.first_chunk()?;
         let total_length = u32::from_le_bytes(*total) as usize;
         let record = Record { number: self.number, place: self.place, total_length, common: self.common, row };
-        self.number += 1;
-        self.place = self.place.checked_add(total_length)?;
+        *self = Records { rows, number: self.number + 1, place: self.place.checked_add(total_length)?, ..*self };
         Some(record)
     }
 }

@@ -236,7 +236,7 @@ fn damaged_samples_are_refused_or_written_back() {
                 if place >= 16 && damaged.len() >= 16 {
                     put_sum_right(&mut damaged);
                 }
-                let _ = sxf::years::of(&damaged).features.iter().map(|f| f.name(&damaged)).count();
+                sxf::years::of(&damaged).features.iter().for_each(|feature| assert!(!feature.name(&damaged).is_empty()));
                 let Ok(sheet) = Sheet::read(&damaged, Setting::Y2017) else { continue };
                 walk(&sheet);
                 let again = write(&sheet.head().expect(name), sheet.table(), Setting::Y2017);
