@@ -47,8 +47,8 @@ pub enum Command {
     },
     /// Print head and record table as JSON lines
     ///
-    /// The first line is the head, then comes a line for each record. Texts, values and carried bytes are strings of hexadecimal digits, elements
-    /// are their stored bits, and all other numbers are as in the record table. `sxf write` takes these lines.
+    /// The first line is the head, then comes a line for each record. Texts, values and carried bytes are strings of hexadecimal digits,
+    /// elements are their stored bits, and all other numbers are as in the record table. `sxf write` takes these lines.
     Table {
         /// The sheet
         file: PathBuf,

@@ -3,8 +3,7 @@ use crate::failure::Failure;
 use crate::input;
 use std::io::Write;
 use std::path::Path;
-use sxf::item::Text;
-use sxf::{Corners, Head, Item, Kind, Number, Part, Point, Record, Setting, Sheet, Value};
+use sxf::{Corners, ElementKind, Head, Item, Number, Part, Point, Record, Setting, Sheet, Text, Value};
 
 pub fn run(file: &Path, number: Option<usize>, setting: Setting, out: &mut dyn Write) -> Result<(), Failure> {
     let bytes = input::bytes(file)?;
@@ -76,10 +75,10 @@ fn reference(record: &Record<'_>) -> String {
     let reference = record.reference();
     let localisation = reference.localisation().map_or("unknown localisation".to_string(), |known| known.to_string());
     let elements = match reference.planar() {
-        Kind::Short => "integers of 2 bytes",
-        Kind::Long => "integers of 4 bytes",
-        Kind::Single => "floating numbers of 4 bytes",
-        Kind::Double => "floating numbers of 8 bytes",
+        ElementKind::Short => "integers of 2 bytes",
+        ElementKind::Long => "integers of 4 bytes",
+        ElementKind::Single => "floating numbers of 4 bytes",
+        ElementKind::Double => "floating numbers of 8 bytes",
     };
     let mut words = vec![localisation, elements.to_string()];
     let told_above = ["large elements", "floating"];

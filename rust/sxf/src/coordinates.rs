@@ -216,7 +216,7 @@ impl fmt::Display for Number {
 
 /// How an element is stored.
 #[derive(Clone, Copy, Debug, PartialEq, Eq, Hash)]
-pub enum Kind {
+pub enum ElementKind {
     /// An integer of two bytes, not signed.
     Short,
     /// An integer of four bytes, signed.
@@ -227,40 +227,40 @@ pub enum Kind {
     Double,
 }
 
-impl Kind {
+impl ElementKind {
     /// How many bytes it has.
     pub fn width(self) -> usize {
         match self {
-            Kind::Short => 2,
-            Kind::Long | Kind::Single => 4,
-            Kind::Double => 8,
+            ElementKind::Short => 2,
+            ElementKind::Long | ElementKind::Single => 4,
+            ElementKind::Double => 8,
         }
     }
 
     /// What stored bits stand for; none where they are too wide for this kind.
     pub fn number(self, bits: u64) -> Option<Number> {
         match self {
-            Kind::Short => u16::try_from(bits).ok().map(|b| Number::Whole(i64::from(b))),
-            Kind::Long => u32::try_from(bits).ok().map(|b| Number::Whole(i64::from(b as i32))),
-            Kind::Single => u32::try_from(bits).ok().map(Number::of_single),
-            Kind::Double => Some(Number::of_double(bits)),
+            ElementKind::Short => u16::try_from(bits).ok().map(|b| Number::Whole(i64::from(b))),
+            ElementKind::Long => u32::try_from(bits).ok().map(|b| Number::Whole(i64::from(b as i32))),
+            ElementKind::Single => u32::try_from(bits).ok().map(Number::of_single),
+            ElementKind::Double => Some(Number::of_double(bits)),
         }
     }
 
     /// The bits that stand for a number; none where this kind has no such number. Nothing is rounded.
     ///
     /// ```
-    /// use sxf::{Kind, Number};
-    /// assert_eq!(Kind::Long.bits(Number::Whole(-1)), Some(0xFFFF_FFFF));
-    /// assert_eq!(Kind::Short.bits(Number::Whole(-1)), None);
-    /// assert_eq!(Kind::Single.bits(Number::Double(0.1)), None);
+    /// use sxf::{ElementKind, Number};
+    /// assert_eq!(ElementKind::Long.bits(Number::Whole(-1)), Some(0xFFFF_FFFF));
+    /// assert_eq!(ElementKind::Short.bits(Number::Whole(-1)), None);
+    /// assert_eq!(ElementKind::Single.bits(Number::Double(0.1)), None);
     /// ```
     pub fn bits(self, number: Number) -> Option<u64> {
         match (self, number) {
-            (Kind::Short, Number::Whole(n)) => u16::try_from(n).ok().map(u64::from),
-            (Kind::Long, Number::Whole(n)) => i32::try_from(n).ok().map(|n| u64::from(n as u32)),
-            (Kind::Single, Number::Single(n)) => Some(u64::from(n.to_bits())),
-            (Kind::Double, Number::Double(n)) => Some(n.to_bits()),
+            (ElementKind::Short, Number::Whole(n)) => u16::try_from(n).ok().map(u64::from),
+            (ElementKind::Long, Number::Whole(n)) => i32::try_from(n).ok().map(|n| u64::from(n as u32)),
+            (ElementKind::Single, Number::Single(n)) => Some(u64::from(n.to_bits())),
+            (ElementKind::Double, Number::Double(n)) => Some(n.to_bits()),
             // Bits of another width, or of a number, are no NaN of this kind.
             (_, Number::NotNumber(bits)) if self.number(bits) == Some(number) => Some(bits),
             _ => None,
@@ -275,14 +275,14 @@ mod tests {
     #[test]
     fn bits_and_numbers_go_to_and_fro() {
         let tried = [
-            (Kind::Short, 0xFFFF, Number::Whole(65535)),
-            (Kind::Long, 0xFFFF_FFFF, Number::Whole(-1)),
-            (Kind::Long, 0x8000_0000, Number::Whole(-2_147_483_648)),
-            (Kind::Single, 0x3F80_0000, Number::Single(1.0)),
-            (Kind::Single, 0x7F80_0001, Number::NotNumber(0x7F80_0001)),
-            (Kind::Single, 0x7F80_0000, Number::Single(f32::INFINITY)),
-            (Kind::Double, 0x8000_0000_0000_0000, Number::Double(-0.0)),
-            (Kind::Double, 0x7FF0_0000_0000_0001, Number::NotNumber(0x7FF0_0000_0000_0001)),
+            (ElementKind::Short, 0xFFFF, Number::Whole(65535)),
+            (ElementKind::Long, 0xFFFF_FFFF, Number::Whole(-1)),
+            (ElementKind::Long, 0x8000_0000, Number::Whole(-2_147_483_648)),
+            (ElementKind::Single, 0x3F80_0000, Number::Single(1.0)),
+            (ElementKind::Single, 0x7F80_0001, Number::NotNumber(0x7F80_0001)),
+            (ElementKind::Single, 0x7F80_0000, Number::Single(f32::INFINITY)),
+            (ElementKind::Double, 0x8000_0000_0000_0000, Number::Double(-0.0)),
+            (ElementKind::Double, 0x7FF0_0000_0000_0001, Number::NotNumber(0x7FF0_0000_0000_0001)),
         ];
         for (kind, bits, number) in tried {
             assert_eq!(kind.number(bits), Some(number));
@@ -292,10 +292,10 @@ mod tests {
 
     #[test]
     fn what_is_too_wide_or_of_another_kind_is_none() {
-        assert_eq!(Kind::Short.number(0x1_0000), None);
-        assert_eq!(Kind::Single.number(0x1_0000_0000), None);
-        assert_eq!(Kind::Double.bits(Number::Whole(1)), None);
-        assert_eq!(Kind::Double.bits(Number::NotNumber(0x7F80_0001)), None);
-        assert_eq!(Kind::Short.bits(Number::NotNumber(1)), None);
+        assert_eq!(ElementKind::Short.number(0x1_0000), None);
+        assert_eq!(ElementKind::Single.number(0x1_0000_0000), None);
+        assert_eq!(ElementKind::Double.bits(Number::Whole(1)), None);
+        assert_eq!(ElementKind::Double.bits(Number::NotNumber(0x7F80_0001)), None);
+        assert_eq!(ElementKind::Short.bits(Number::NotNumber(1)), None);
     }
 }

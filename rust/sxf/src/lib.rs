@@ -52,12 +52,12 @@ pub mod visibility;
 pub mod writer;
 pub mod years;
 
-pub use coordinates::{Coordinate, Degrees, DevicePoints, Height, Kind, Metres, Number, Radians, Unit};
+pub use coordinates::{Coordinate, Degrees, DevicePoints, ElementKind, Height, Metres, Number, Radians, Unit};
 pub use head::{Corners, Head};
-pub use item::{Coding, Item, Value};
+pub use item::{Coding, Item, Text, Value};
 pub use part::{Part, Point};
 pub use record::{Record, RecordAt};
-pub use reference::Reference;
+pub use reference::{Localisation, Reference};
 pub use refusal::Refusal;
 pub use setting::Setting;
 pub use sheet::{check, record_at, Sheet, Sizes};

@@ -1,5 +1,5 @@
 //! Parts of a record: the object itself, then its subobjects.
-use crate::coordinates::{Coordinate, Height, Kind, Unit};
+use crate::coordinates::{Coordinate, ElementKind, Height, Unit};
 use crate::item::{Coding, Text};
 use crate::table::Row;
 use crate::Reference;
@@ -44,8 +44,8 @@ pub struct Point {
 /// The points of a part.
 #[derive(Clone, Copy, Debug)]
 pub struct Points<'a> {
-    planar: Kind,
-    height: Option<Kind>,
+    planar: ElementKind,
+    height: Option<ElementKind>,
     unit: Unit,
     elements: &'a [u64],
 }

@@ -1,5 +1,5 @@
 //! The three reference bytes of a record, bytes 20 to 22, as one number with byte 20 lowest.
-use crate::Kind;
+use crate::ElementKind;
 use std::fmt;
 
 /// The reference bytes.
@@ -133,21 +133,21 @@ impl Reference {
     }
 
     /// How a planar element is stored.
-    pub fn planar(self) -> Kind {
+    pub fn planar(self) -> ElementKind {
         match (self.floating(), self.large_elements()) {
-            (false, false) => Kind::Short,
-            (false, true) => Kind::Long,
-            (true, false) => Kind::Single,
-            (true, true) => Kind::Double,
+            (false, false) => ElementKind::Short,
+            (false, true) => ElementKind::Long,
+            (true, false) => ElementKind::Single,
+            (true, true) => ElementKind::Double,
         }
     }
 
     /// How a height is stored, in three dimensions: 8 bytes where planar elements are 8, else 4.
-    pub fn height(self) -> Option<Kind> {
+    pub fn height(self) -> Option<ElementKind> {
         match (self.three_dimensions(), self.planar()) {
             (false, _) => None,
-            (true, Kind::Double) => Some(Kind::Double),
-            (true, _) => Some(Kind::Single),
+            (true, ElementKind::Double) => Some(ElementKind::Double),
+            (true, _) => Some(ElementKind::Single),
         }
     }
 
@@ -158,7 +158,7 @@ impl Reference {
 
     /// How many bytes a point has.
     pub fn point_size(self) -> usize {
-        2 * self.planar().width() + self.height().map_or(0, Kind::width)
+        2 * self.planar().width() + self.height().map_or(0, ElementKind::width)
     }
 }
 

@@ -1,5 +1,5 @@
 //! A sheet is written, from a head and a record table.
-use crate::coordinates::{Coordinate, Kind, Unit};
+use crate::coordinates::{Coordinate, ElementKind, Unit};
 use crate::head::Head;
 use crate::item::Coding;
 use crate::part::Point;
@@ -73,8 +73,7 @@ impl<'a> Writer<'a> {
     /// rounded. What else is wrong with it is refused when the sheet is written.
     ///
     /// ```
-    /// use sxf::reference::{Localisation, Reference};
-    /// use sxf::{Head, NewItem, NewPart, NewRecord, Number, Point, Setting, Writer};
+    /// use sxf::{Head, Localisation, Reference, NewItem, NewPart, NewRecord, Number, Point, Setting, Writer};
     ///
     /// let mut writer = Writer::new(Head::PLAIN)?;
     /// let device = |n| writer.unit().coordinate(Number::Whole(n));
@@ -193,7 +192,7 @@ fn store(point: &Point, reference: Reference, unit: Unit, elements: &mut Vec<u64
     }
 }
 
-fn planar_bits(coordinate: Coordinate, kind: Kind, unit: Unit) -> Result<u64, Why> {
+fn planar_bits(coordinate: Coordinate, kind: ElementKind, unit: Unit) -> Result<u64, Why> {
     if coordinate.unit() != unit {
         return Err(Why::Unit(coordinate.unit(), unit));
     }
@@ -312,7 +311,7 @@ pub enum Why {
     /// A coordinate in the first unit, where the sheet has the second.
     Unit(Unit, Unit),
     /// A number that an element of this kind does not hold exactly.
-    Number(Kind),
+    Number(ElementKind),
     /// A height is missing (true), or there is one in two dimensions (false).
     Height(bool),
 }
@@ -353,13 +352,13 @@ mod tests {
         let space = plane.with(Reference::THREE_DIMENSIONS);
         let device = Unit::DevicePoints;
         assert_eq!(pushed(plane, point(device, 65535)), Ok(()));
-        assert_eq!(pushed(plane, point(device, 65536)), Err(Why::Number(Kind::Short)));
+        assert_eq!(pushed(plane, point(device, 65536)), Err(Why::Number(ElementKind::Short)));
         assert_eq!(pushed(plane, point(Unit::Metres, 1)), Err(Why::Unit(Unit::Metres, device)));
         assert_eq!(pushed(space, point(device, 1)), Err(Why::Height(true)));
         let high = |number| Point { height: Some(Height::new(number)), ..point(device, 1) };
         assert_eq!(pushed(plane, high(Number::Single(1.0))), Err(Why::Height(false)));
         assert_eq!(pushed(space, high(Number::Single(1.0))), Ok(()));
-        assert_eq!(pushed(space, high(Number::Whole(1))), Err(Why::Number(Kind::Single)));
+        assert_eq!(pushed(space, high(Number::Whole(1))), Err(Why::Number(ElementKind::Single)));
     }
 
     #[test]

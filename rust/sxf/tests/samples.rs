@@ -1,9 +1,9 @@
 //! The wrapper over the sample sheets, and over what is left of them when a byte or a number is changed.
 use std::fs;
 use std::path::PathBuf;
-use sxf::item::Text;
 use sxf::{
-    check, record_at, write, Coding, Head, Item, NewItem, NewPart, NewRecord, Number, Setting, Sheet, Table, TableRef, Unit, Value,
+    check, record_at, write, Coding, Head, Item, NewItem, NewPart, NewRecord, Number, Setting, Sheet, Table, TableRef, Text, Unit,
+    Value,
 };
 
 fn sample(name: &str) -> Vec<u8> {
