@@ -13,7 +13,7 @@ const LONGEST: u64 = 32 * LIMIT as u64;
 
 pub fn run(json: &Path, file: &Path, setting: Setting) -> Result<(), Failure> {
     let (head, lines) = tables(json)?;
-    let head = head_of(&head).map_err(|what| Failure::trouble(json, format!("line 1: {what}")))?;
+    let head = head_of(&head).map_err(|what| Failure::trouble(json, format!("the head: {what}")))?;
     let sheet = sxf::write(&head, lines.table.lend(), setting).map_err(|refusal| told(json, &head, &lines, setting, refusal))?;
     output::whole(file, &sheet)
 }
@@ -24,7 +24,7 @@ fn told(json: &Path, head: &Head<'_>, lines: &Lines, setting: Setting, refusal: 
     let place = if whole {
         String::new()
     } else if check_head(head, setting).is_err() {
-        " (line 1, the head; the place is the sheet's)".to_string()
+        " (the head; the place is the sheet's)".to_string()
     } else {
         lines.place(refusal.place)
     };

@@ -156,7 +156,7 @@ fn a_sheet_is_written_for_a_year() {
     let table = on("table", &sample("dated"), &[]).stdout;
     let refused = write(&table, &folder.file("dated.sxf"), &["--year", "2004"]);
     assert_eq!(status(&refused), 1);
-    assert!(told(&refused).contains("refusal 8 TOO NEW at 98 (0x62)") && told(&refused).contains("(line 1, the head"));
+    assert!(told(&refused).contains("refusal 8 TOO NEW at 98 (0x62)") && told(&refused).contains("(the head; "));
     assert_eq!(folder.names(), [""; 0]);
 }
 
@@ -171,7 +171,11 @@ fn changed(from: &str, to: &str) -> Vec<u8> {
 fn a_refused_table_is_told_with_its_line() {
     let folder = Folder::new("refused");
     for (from, to, line) in [
-        ("\"reference\":514", "\"reference\":18446744073709551615", "refusal 14 TABLE at 3 (0x3)"),
+        (
+            "\"reference\":514",
+            "\"reference\":18446744073709551615",
+            "refusal 14 TABLE at 3 (0x3): the record table is not well formed here (line 2, record 0, reference bytes)",
+        ),
         ("\"reference\":514", "\"reference\":2", "(line 2, record 0, items)"),
         ("\"f904\"", "\"f9\"", "(line 2, record 0, item 0, value length)"),
         ("[3,4]", "[3,65536]", "(line 2, record 0, part 0, points)"),
@@ -196,8 +200,8 @@ fn bad_json_is_told_with_its_line() {
         ("\"word\":0,", "\"word\":18446744073709551616,", "line 2: column "),
         ("\"f904\"", "\"f90\"", "hexadecimal digits, two a byte"),
         ("[3,4]", "[3,4,5]", "line 2: part 0: 3 elements, where 1 points have 2 each"),
-        ("\"flags\":\"03000000\"", "\"flags\":\"0300\"", "line 1: flags has 2 bytes, where it has 4 in a sheet"),
-        ("\"sxf\":\"4.0\"", "\"sxf\":\"5.0\"", "line 1: sxf is \"5.0\""),
+        ("\"flags\":\"03000000\"", "\"flags\":\"0300\"", "the head: flags has 2 bytes, where it has 4 in a sheet"),
+        ("\"sxf\":\"4.0\"", "\"sxf\":\"5.0\"", "the head: sxf is \"5.0\""),
         ("\"records\":1", "\"records\":2", "records are 1, where the head says 2"),
         ("}]}\n", "", "line 2: column "),
     ] {

@@ -1,7 +1,6 @@
 //! Sheets of SXF 4.0, read and written by the proved library.
 //!
-//! What a sheet is, and when it is refused, is document 01's ("the document" below), and the names here are its own words. Every answer
-//! on bytes and tables is the proved library's; this crate gives it safe types, and walks over what the library unfolded.
+//! What a sheet is, and when it is refused, is document 01's ("the document" below), and the names here are its own words.
 //!
 //! ```
 //! use sxf::{Head, Setting, Sheet, Writer};
@@ -29,8 +28,15 @@
 //! | [`years`] | which features a sheet has, and from which year |
 //! | [`refusal`], [`setting`] | refusals, and the nine settings |
 //!
-//! Nothing here panics on what a sheet or a table holds. The library's own promise is that an accepted sheet's table is well formed; what
-//! goes against that promise would end an iteration early.
+//! # What is proved, and what is tried
+//!
+//! Proved are the library's answers: what is accepted and refused, with number, place and year; sum, count and sizes; the record table; a
+//! record asked for by number; the lengths of the head's texts; unit, corners, visibility, and the numbers of items; the bytes written. This
+//! crate hands them on. Its own, which tests hold and no proof, are the walk over the table that was unfolded, a record's place in that walk,
+//! what an element's bits stand for, the fields of [`Head`] behind its carried bytes, the room for writing, and the names of features.
+//!
+//! Nothing here panics on what a sheet or a table holds. That an accepted sheet's table is well formed is the library's promise; what goes
+//! against it would end an iteration early, and for good.
 #![deny(missing_docs)]
 #![deny(unsafe_code)]
 #![deny(unsafe_op_in_unsafe_fn)]

@@ -119,30 +119,61 @@ impl<'a> TableRef<'a> {
         (rows.rest == TableRef::default()).then_some(length)
     }
 
-    /// Which number of which record stands at an index, as the writer's refusals name it. None past the last well-formed row.
+    /// Which number of which record stands at an index, as the writer's refusals name it. None past the last row that is whole; the pools
+    /// are not looked at.
     pub fn spot(self, index: usize) -> Option<Spot> {
-        let mut start = 0;
-        for (record, row) in self.rows().enumerate() {
-            let length = row.length();
-            if let Some(within) = index.checked_sub(start).filter(|&within| within < length) {
+        let (mut rest, mut start) = (self.numbers, 0);
+        for record in 0.. {
+            let (row, later) = RowNumbers::take(rest)?;
+            let within = index.checked_sub(start)?;
+            if within < row.length() {
                 return Some(row.spot(record, within));
             }
-            start += length;
+            start += row.length();
+            rest = later;
         }
         None
     }
 
     fn take_row(self) -> Option<(Row<'a>, TableRef<'a>)> {
-        let (numbers, rest) = self.numbers.split_first_chunk::<8>()?;
-        let (parts, rest) = take_arrays::<2>(rest, numbers[column::PARTS])?;
-        let (items, rest) = take_arrays::<4>(rest, numbers[column::ITEMS])?;
-        let reference = reference_of(numbers);
-        let elements = total(parts.iter().map(|[points, _]| points))?.checked_mul(reference.elements())?;
+        let (RowNumbers { numbers, parts, items }, rest) = RowNumbers::take(self.numbers)?;
+        let elements = total(parts.iter().map(|[points, _]| points))?.checked_mul(reference_of(numbers).elements())?;
         let (elements, elements_rest) = self.elements.split_at_checked(elements)?;
         let (texts, bytes) = self.bytes.split_at_checked(total(parts.iter().map(|[_, text]| text))?)?;
         let (values, bytes) = bytes.split_at_checked(total(items.iter().map(|[_, _, _, value]| value))?)?;
         let row = Row { numbers, parts, items, elements, texts, values };
         Some((row, TableRef { numbers: rest, elements: elements_rest, bytes }))
+    }
+}
+
+/// The numbers of a row, without the pools.
+struct RowNumbers<'a> {
+    numbers: &'a [u64; 8],
+    parts: &'a [[u64; 2]],
+    items: &'a [[u64; 4]],
+}
+
+impl<'a> RowNumbers<'a> {
+    fn take(table: &'a [u64]) -> Option<(RowNumbers<'a>, &'a [u64])> {
+        let (numbers, rest) = table.split_first_chunk::<8>()?;
+        let (parts, rest) = take_arrays(rest, numbers[column::PARTS])?;
+        let (items, rest) = take_arrays(rest, numbers[column::ITEMS])?;
+        Some((RowNumbers { numbers, parts, items }, rest))
+    }
+
+    fn length(&self) -> usize {
+        8 + self.parts.as_flattened().len() + self.items.as_flattened().len()
+    }
+
+    fn spot(&self, record: usize, within: usize) -> Spot {
+        let Some(at) = within.checked_sub(8) else {
+            return Spot { record, inner: Inner::Number(within) };
+        };
+        let inner = match at.checked_sub(self.parts.as_flattened().len()) {
+            None => Inner::Part(at / 2, at % 2),
+            Some(at) => Inner::Item(at / 4, at % 4),
+        };
+        Spot { record, inner }
     }
 }
 
@@ -167,11 +198,6 @@ impl<'a> Row<'a> {
         reference_of(self.numbers)
     }
 
-    /// How many numbers of the table it has.
-    fn length(&self) -> usize {
-        8 + self.parts.as_flattened().len() + self.items.as_flattened().len()
-    }
-
     /// How many bytes its record has: header, metric and semantics.
     fn record_length(&self) -> Option<usize> {
         let reference = self.reference();
@@ -181,18 +207,6 @@ impl<'a> Row<'a> {
         let texts = if reference.text() { self.parts.len().checked_mul(2)?.checked_add(self.texts.len())? } else { 0 };
         let values = self.items.iter().try_fold(0usize, |sum, item| sum.checked_add(item_length(item)?))?;
         [points.checked_mul(reference.point_size())?, heads, texts, values].into_iter().try_fold(32, usize::checked_add)
-    }
-
-    fn spot(&self, record: usize, within: usize) -> Spot {
-        let Some(at) = within.checked_sub(8) else {
-            return Spot { record, inner: Inner::Number(within) };
-        };
-        let parts = self.parts.as_flattened().len();
-        let inner = match at.checked_sub(parts) {
-            None => Inner::Part(at / 2, at % 2),
-            Some(at) => Inner::Item(at / 4, at % 4),
-        };
-        Spot { record, inner }
     }
 }
 
@@ -288,7 +302,6 @@ mod tests {
         ] {
             assert_eq!(broken.rows().next(), None);
             assert_eq!(broken.sheet_length(), None);
-            assert_eq!(broken.spot(0), None);
         }
     }
 
@@ -298,6 +311,10 @@ mod tests {
         assert_eq!(told(3).as_deref(), Some("record 0, reference bytes"));
         assert_eq!(told(9).as_deref(), Some("record 0, part 0, text length"));
         assert_eq!(told(13).as_deref(), Some("record 0, item 0, value length"));
-        assert_eq!(told(14), None);
+        assert_eq!((told(14), told(usize::MAX)), (None, None));
+        let twice = [Q, Q].concat();
+        let told = |index| TableRef { numbers: &twice, ..q() }.spot(index).map(|spot| spot.to_string());
+        assert_eq!(told(14 + 10).as_deref(), Some("record 1, item 0, code"));
+        assert_eq!(TableRef { numbers: &Q[..13], ..q() }.spot(0), None);
     }
 }

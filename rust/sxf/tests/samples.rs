@@ -2,8 +2,8 @@
 use std::fs;
 use std::path::PathBuf;
 use sxf::{
-    check, record_at, write, Coding, Head, Item, NewItem, NewPart, NewRecord, Number, Setting, Sheet, Table, TableRef, Text, Unit,
-    Value,
+    check, record_at, write, Coding, Head, Height, Item, Localisation, NewItem, NewPart, NewRecord, Number, Point, Reference,
+    Setting, Sheet, Table, TableRef, Text, Unit, Value,
 };
 
 fn sample(name: &str) -> Vec<u8> {
@@ -175,6 +175,49 @@ fn values_of_items_are_told() {
         text(Coding::Utf16, b"A\0"),
     ];
     assert_eq!(values, expected);
+}
+
+/// A record with everything: three dimensions, two parts with texts, two items; and a record after it.
+#[test]
+fn texts_values_and_heights_stand_apart() {
+    let plane = |n| Unit::DevicePoints.coordinate(Number::Whole(n));
+    let point = |n: i64| Point { x: plane(n), y: plane(n + 1), height: Some(Height::new(Number::Single(0.5))) };
+    let reference = Reference::new(Localisation::Label).with(Reference::TEXT | Reference::THREE_DIMENSIONS);
+    let record = NewRecord::new(7, reference)
+        .part(NewPart::new(vec![point(1), point(3)]).text("first"))
+        .part(NewPart::new(vec![point(5)]).text("second"))
+        .item(NewItem::text(1, Coding::Windows, b"third").expect("a text"))
+        .item(NewItem::double(2, -0.0));
+    let mut writer = sxf::Writer::new(Head::PLAIN).expect("a plain head");
+    for _ in 0..2 {
+        writer.push(&record).expect("a record that fits");
+    }
+    let bytes = writer.write(Setting::Y1999).expect("a sheet");
+    assert_eq!(copied(&read(&bytes)), [record.clone(), record]);
+}
+
+/// The coordinates of the sheet's unit, as the passport's flags and the byte at +236 say.
+#[test]
+fn coordinates_are_in_the_sheets_unit() {
+    let units = [
+        (3, 0, Unit::DevicePoints),
+        (0x1B, 0, Unit::Metres),
+        (0x1B, 64, Unit::Radians),
+        (0x1B, 65, Unit::Degrees),
+        (0x1B, 9, Unit::Unknown(9)),
+    ];
+    for (flags, byte, unit) in units {
+        let mut rest = *Head::PLAIN.rest;
+        (rest[0], rest[236 - 96]) = (flags, byte);
+        let mut writer = sxf::Writer::new(Head { rest: &rest, ..Head::PLAIN }).expect("a head");
+        assert_eq!(writer.unit(), unit);
+        let at = unit.coordinate(Number::Whole(3));
+        let part = NewPart::new(vec![Point { x: at, y: at, height: None }]);
+        writer.push(&NewRecord::new(0, Reference::new(Localisation::Point)).part(part.clone())).expect("a point that fits");
+        let bytes = writer.write(Setting::Y1999).expect("a sheet");
+        assert_eq!(copied(&read(&bytes))[0].parts, [part]);
+        assert_eq!(read(&bytes).unit(), unit);
+    }
 }
 
 #[test]
