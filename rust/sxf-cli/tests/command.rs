@@ -229,6 +229,23 @@ fn a_file_that_cannot_be_written_leaves_nothing_behind() {
     assert_eq!(fs::read_dir(folder.file("taken")).expect("the folder").count(), 0);
 }
 
+/// No byte may be written to a file here, as on a disk that is full, so that it fails when the file beside the target is there already.
+#[cfg(unix)]
+#[test]
+fn a_file_that_is_cut_off_leaves_nothing_behind() {
+    let folder = Folder::new("cut");
+    let file = folder.file("q.sxf");
+    fs::write(&file, b"what was there").expect("a file");
+    let json = Folder::new("cut-json");
+    fs::write(json.file("q.json"), on("table", &sample("Q"), &[]).stdout).expect("a file");
+    let mut limited = Command::new("sh");
+    limited.args(["-c", "trap '' XFSZ; ulimit -f 0; exec \"$@\"", "sh", env!("CARGO_BIN_EXE_sxf"), "write"]);
+    let output = limited.arg(json.file("q.json")).arg("-o").arg(&file).output().expect("sh runs");
+    assert_eq!(status(&output), 2);
+    assert!(told(&output).contains("q.sxf: cannot be written: "));
+    assert_eq!((folder.names(), fs::read(&file).expect("the file")), (vec!["q.sxf".to_string()], b"what was there".to_vec()));
+}
+
 #[test]
 fn a_refused_table_leaves_the_file_as_it_was() {
     let folder = Folder::new("kept");
