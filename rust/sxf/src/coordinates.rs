@@ -17,7 +17,7 @@ pub enum Unit {
 }
 
 impl Unit {
-    /// A number in this unit: the one way to make a coordinate.
+    /// A number in this unit: the one way to make a coordinate in a known unit.
     ///
     /// ```
     /// use sxf::{Number, Unit};
@@ -75,7 +75,7 @@ units! {
     Degrees
 }
 
-/// A coordinate in the sheet's unit. It is made by [`Unit::coordinate`] alone.
+/// A coordinate in the sheet's unit. One in a known unit is made by [`Unit::coordinate`] alone.
 #[derive(Clone, Copy, Debug, PartialEq)]
 pub enum Coordinate {
     /// In device points.
