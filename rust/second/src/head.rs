@@ -112,15 +112,7 @@ pub(crate) fn read_head(sheet: &[u8], setting: Setting) -> Result<Opening, Refus
     Ok(Opening {
         sum,
         records: u32_at(sheet, COUNT),
-        head: Head {
-            date,
-            designation,
-            scale: u32_at(sheet, SCALE),
-            title,
-            rest,
-            designation2,
-            flags,
-        },
+        head: Head { date, designation, scale: u32_at(sheet, SCALE), title, rest, designation2, flags },
     })
 }
 
@@ -162,11 +154,7 @@ fn state_allowed(flags: u8) -> bool {
 /// The sum of all bytes, those at 12 counted as zero. A sheet within the
 /// limit has a sum below 2^32.
 fn sum(sheet: &[u8]) -> u32 {
-    let of = |bytes: &[u8]| {
-        bytes
-            .iter()
-            .fold(0u32, |sum, &byte| sum.wrapping_add(u32::from(byte)))
-    };
+    let of = |bytes: &[u8]| bytes.iter().fold(0u32, |sum, &byte| sum.wrapping_add(u32::from(byte)));
     of(&sheet[..SUM]).wrapping_add(of(&sheet[SUM + 4..]))
 }
 

@@ -60,11 +60,7 @@ impl Kind {
 
     /// Whether the value ends with its closing zeros.
     pub(crate) fn is_closed(self, value: &[u8]) -> bool {
-        value
-            .iter()
-            .rev()
-            .take(self.closing_zeros())
-            .all(|&byte| byte == 0)
+        value.iter().rev().take(self.closing_zeros()).all(|&byte| byte == 0)
     }
 }
 

@@ -52,15 +52,13 @@ pub fn corners(sheet: &[u8], year: u32) -> Result<[u64; 8], Refusal> {
 
 /// Document 000, table 4: maps smaller than 1:10 000.
 const SMALL_SCALE: [u32; 16] = [
-    500, 1_000, 2_000, 5_000, 10_000, 25_000, 50_000, 100_000, 200_000, 500_000, 1_000_000,
-    2_000_000, 5_000_000, 10_000_000, 20_000_000, 40_000_000,
+    500, 1_000, 2_000, 5_000, 10_000, 25_000, 50_000, 100_000, 200_000, 500_000, 1_000_000, 2_000_000, 5_000_000, 10_000_000,
+    20_000_000, 40_000_000,
 ];
 
 /// Document 000, table 5: maps of 1:10 000 and larger.
-const LARGE_SCALE: [u32; 16] = [
-    5, 10, 25, 50, 100, 200, 500, 1_000, 2_000, 5_000, 10_000, 25_000, 50_000, 100_000, 200_000,
-    500_000,
-];
+const LARGE_SCALE: [u32; 16] =
+    [5, 10, 25, 50, 100, 200, 500, 1_000, 2_000, 5_000, 10_000, 25_000, 50_000, 100_000, 200_000, 500_000];
 
 /// The lower and the upper scale denominator of a visibility byte; none if
 /// it is unset. `flags` is the byte at +96, whose bit 7 picks the table.
@@ -68,11 +66,7 @@ pub fn visibility(flags: u8, byte: u8) -> Option<(u32, u32)> {
     if byte == 0xFF {
         return None;
     }
-    let table = if flags & 0x80 == 0 {
-        SMALL_SCALE
-    } else {
-        LARGE_SCALE
-    };
+    let table = if flags & 0x80 == 0 { SMALL_SCALE } else { LARGE_SCALE };
     let lower = usize::from(byte & 0x0F);
     let upper = 15 - usize::from(byte >> 4);
     Some((table[lower], table[upper]))

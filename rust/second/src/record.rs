@@ -55,26 +55,14 @@ pub(crate) trait Listener {
 
 /// Reads the record that starts at `at` and tells the listener of its parts
 /// and items.
-pub(crate) fn read_record<L: Listener>(
-    sheet: &[u8],
-    at: usize,
-    setting: Setting,
-    listener: &mut L,
-) -> Result<Record, Refusal> {
+pub(crate) fn read_record<L: Listener>(sheet: &[u8], at: usize, setting: Setting, listener: &mut L) -> Result<Record, Refusal> {
     let header = Header::read(sheet, at, setting)?;
     listener.header(&header.record);
     read_metric(sheet, &header, listener)?;
     let has_bytes = header.metric_end < header.end;
-    require(
-        header.reference.has_semantics() == has_bytes,
-        Refusal::LENGTH,
-        header.metric_end as u64,
-    )?;
+    require(header.reference.has_semantics() == has_bytes, Refusal::LENGTH, header.metric_end as u64)?;
     let items = read_items(sheet, &header, setting, listener)?;
-    Ok(Record {
-        items,
-        ..header.record
-    })
+    Ok(Record { items, ..header.record })
 }
 
 /// A record's header, and where metric and record end.
@@ -123,11 +111,7 @@ impl Header {
 }
 
 /// Total and metric length, which fit the bytes that are left and each other.
-fn read_lengths(
-    header: &[u8; HEADER_BYTES],
-    place: u64,
-    left: usize,
-) -> Result<(usize, usize), Refusal> {
+fn read_lengths(header: &[u8; HEADER_BYTES], place: u64, left: usize) -> Result<(usize, usize), Refusal> {
     let total = u64::from(u32_at(header, 4));
     let metric = u64::from(u32_at(header, 8));
     require(total >= HEADER_BYTES as u64, Refusal::LENGTH, place + 4)?;
@@ -138,11 +122,7 @@ fn read_lengths(
 }
 
 /// Whether the record carries the mark, and its first part's points.
-fn read_first_count(
-    header: &[u8; HEADER_BYTES],
-    place: u64,
-    setting: Setting,
-) -> Result<(bool, u64), Refusal> {
+fn read_first_count(header: &[u8; HEADER_BYTES], place: u64, setting: Setting) -> Result<(bool, u64), Refusal> {
     let points = u64::from(u16_at(header, 30));
     if points != MARK {
         return Ok((false, points));
@@ -153,25 +133,13 @@ fn read_first_count(
     Ok((true, word))
 }
 
-fn read_metric<L: Listener>(
-    sheet: &[u8],
-    header: &Header,
-    listener: &mut L,
-) -> Result<(), Refusal> {
+fn read_metric<L: Listener>(sheet: &[u8], header: &Header, listener: &mut L) -> Result<(), Refusal> {
     let shape = header.reference.shape();
     let mut metric = Span::new(sheet, header.metric, header.metric_end);
     for part in 0..header.record.parts {
-        let count = if part == 0 {
-            header.record.points
-        } else {
-            read_subobject_count(&mut metric, header.marked)?
-        };
+        let count = if part == 0 { header.record.points } else { read_subobject_count(&mut metric, header.marked)? };
         let points = metric.take(count * shape.point_bytes())?;
-        let text = if header.reference.has_text() {
-            read_part_text(&mut metric)?
-        } else {
-            &[]
-        };
+        let text = if header.reference.has_text() { read_part_text(&mut metric)? } else { &[] };
         listener.part(count, points, shape, text);
     }
     require(metric.is_empty(), Refusal::LENGTH, metric.place())
@@ -197,12 +165,7 @@ fn read_part_text<'a>(metric: &mut Span<'a>) -> Result<&'a [u8], Refusal> {
 }
 
 /// Reads the items to the record's end and counts them.
-fn read_items<L: Listener>(
-    sheet: &[u8],
-    header: &Header,
-    setting: Setting,
-    listener: &mut L,
-) -> Result<u64, Refusal> {
+fn read_items<L: Listener>(sheet: &[u8], header: &Header, setting: Setting, listener: &mut L) -> Result<u64, Refusal> {
     let mut semantics = Span::new(sheet, header.metric_end, header.end);
     let mut items = 0;
     while !semantics.is_empty() {
@@ -212,11 +175,7 @@ fn read_items<L: Listener>(
     Ok(items)
 }
 
-fn read_item<L: Listener>(
-    semantics: &mut Span,
-    setting: Setting,
-    listener: &mut L,
-) -> Result<(), Refusal> {
+fn read_item<L: Listener>(semantics: &mut Span, setting: Setting, listener: &mut L) -> Result<(), Refusal> {
     let place = semantics.place();
     let head = semantics.peek(4)?;
     let (code, type_byte, scale) = (u16_at(head, 0), head[2], head[3]);

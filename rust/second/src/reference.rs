@@ -19,11 +19,7 @@ impl Reference {
 
     fn check_byte_20(self, setting: Setting, place: u64) -> Result<(), Refusal> {
         let byte = self.0[0];
-        require(
-            byte & 0x0F <= 5 && byte & 0xE0 == 0,
-            Refusal::RESERVED,
-            place,
-        )?;
+        require(byte & 0x0F <= 5 && byte & 0xE0 == 0, Refusal::RESERVED, place)?;
         setting.admit(byte & 0x10 != 0, years::MULTIPOLYGON, place)
     }
 
@@ -43,11 +39,7 @@ impl Reference {
     fn check_byte_22(self, setting: Setting, place: u64) -> Result<(), Refusal> {
         let byte = self.0[2];
         let text_allowed = matches!(self.localisation(), 3 | 5);
-        require(
-            byte & 0x01 == 0 && (text_allowed || !self.has_text()),
-            Refusal::RESERVED,
-            place,
-        )?;
+        require(byte & 0x01 == 0 && (text_allowed || !self.has_text()), Refusal::RESERVED, place)?;
         setting.admit(byte & 0xC0 != 0, years::SPLINE, place)?;
         let graphics = byte & 0x10 != 0;
         require(!graphics, Refusal::NOT_CARRIED, place)

@@ -47,20 +47,12 @@ impl Refusal {
 
     /// A refusal with no year.
     pub(crate) fn new(number: u64, place: u64) -> Refusal {
-        Refusal {
-            number,
-            place,
-            year: 0,
-        }
+        Refusal { number, place, year: 0 }
     }
 
     /// TOO NEW, for a feature of `year`.
     pub(crate) fn too_new(place: u64, year: u64) -> Refusal {
-        Refusal {
-            number: Refusal::TOO_NEW,
-            place,
-            year,
-        }
+        Refusal { number: Refusal::TOO_NEW, place, year }
     }
 }
 

@@ -47,11 +47,9 @@ impl Shape {
     pub(crate) fn unfold(self, points: &[u8], pool: &mut Vec<u64>) {
         match (self.planar, self.height) {
             (2, 0) => pool.extend(points.chunks_exact(2).map(two)),
-            (2, _) => pool.extend(
-                points
-                    .chunks_exact(8)
-                    .flat_map(|point| [two(&point[..2]), two(&point[2..4]), four(&point[4..])]),
-            ),
+            (2, _) => {
+                pool.extend(points.chunks_exact(8).flat_map(|point| [two(&point[..2]), two(&point[2..4]), four(&point[4..])]))
+            }
             (4, _) => pool.extend(points.chunks_exact(4).map(four)),
             _ => pool.extend(points.chunks_exact(8).map(eight)),
         }
@@ -109,9 +107,7 @@ fn two(element: &[u8]) -> u64 {
 }
 
 fn four(element: &[u8]) -> u64 {
-    u64::from(u32::from_le_bytes([
-        element[0], element[1], element[2], element[3],
-    ]))
+    u64::from(u32::from_le_bytes([element[0], element[1], element[2], element[3]]))
 }
 
 fn eight(element: &[u8]) -> u64 {

@@ -28,21 +28,13 @@ pub fn read(sheet: &[u8], year: u32) -> Result<Reading, Refusal> {
     let (setting, opening) = read_sheet(sheet, year, &mut sizes)?;
     let mut unfolding = Unfolding::new(&sizes);
     read_records(sheet, setting, opening.records, &mut unfolding)?;
-    Ok(Reading {
-        sum: u64::from(opening.sum),
-        records: u64::from(opening.records),
-        head: opening.head,
-        table: unfolding.table,
-    })
+    Ok(Reading { sum: u64::from(opening.sum), records: u64::from(opening.records), head: opening.head, table: unfolding.table })
 }
 
 /// Answers for the record with this number, from 0. The sheet's own refusals
 /// come first, then ASK for a number not below the count.
 pub fn record_at(sheet: &[u8], year: u32, number: u64) -> Result<Record, Refusal> {
-    let mut wanted = Wanted {
-        number,
-        found: None,
-    };
+    let mut wanted = Wanted { number, found: None };
     read_sheet(sheet, year, &mut wanted)?;
     wanted.found.ok_or(Refusal::new(Refusal::ASK, 0))
 }
@@ -69,11 +61,7 @@ impl Listener for Wanted {
 }
 
 /// Setting, head, each record, then LEFT OVER ("The refusals", order).
-fn read_sheet<L: Listener>(
-    sheet: &[u8],
-    year: u32,
-    listener: &mut L,
-) -> Result<(Setting, Opening), Refusal> {
+fn read_sheet<L: Listener>(sheet: &[u8], year: u32, listener: &mut L) -> Result<(Setting, Opening), Refusal> {
     let setting = Setting::new(year)?;
     let opening = read_head(sheet, setting)?;
     read_records(sheet, setting, opening.records, listener)?;
@@ -81,12 +69,7 @@ fn read_sheet<L: Listener>(
 }
 
 /// Each record, then LEFT OVER.
-fn read_records<L: Listener>(
-    sheet: &[u8],
-    setting: Setting,
-    records: u32,
-    listener: &mut L,
-) -> Result<(), Refusal> {
+fn read_records<L: Listener>(sheet: &[u8], setting: Setting, records: u32, listener: &mut L) -> Result<(), Refusal> {
     let mut at = HEAD_BYTES;
     for number in 0..u64::from(records) {
         let record = read_record(sheet, at, setting, listener)?;

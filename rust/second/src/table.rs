@@ -92,12 +92,7 @@ impl Listener for Unfolding {
     }
 
     fn item(&mut self, code: u16, type_byte: u8, scale: u8, value: &[u8]) {
-        self.table.numbers.extend_from_slice(&[
-            u64::from(code),
-            u64::from(type_byte),
-            u64::from(scale),
-            value.len() as u64,
-        ]);
+        self.table.numbers.extend_from_slice(&[u64::from(code), u64::from(type_byte), u64::from(scale), value.len() as u64]);
         self.table.bytes.extend_from_slice(value);
     }
 
@@ -131,12 +126,7 @@ impl<'a> Row<'a> {
             return Err(missing);
         }
         let (parts, left) = left.split_at(part_numbers as usize);
-        Ok(Row {
-            index,
-            numbers: row,
-            parts,
-            items: &left[..item_numbers as usize],
-        })
+        Ok(Row { index, numbers: row, parts, items: &left[..item_numbers as usize] })
     }
 
     /// The index of the first part's points.

@@ -26,12 +26,7 @@ pub fn write(year: u32, head: &Head, table: &Table, room: usize) -> Result<Vec<u
 
 /// The sheet with its first 452 bytes still zero, and the record count.
 fn write_records(table: &Table, setting: Setting) -> Result<(Vec<u8>, u64), Refusal> {
-    let mut writer = Writer {
-        setting,
-        sheet: vec![0; HEAD_BYTES],
-        elements: &table.elements,
-        bytes: &table.bytes,
-    };
+    let mut writer = Writer { setting, sheet: vec![0; HEAD_BYTES], elements: &table.elements, bytes: &table.bytes };
     let mut records = 0;
     let mut index = 0;
     while index < table.numbers.len() {
@@ -111,11 +106,7 @@ impl Writer<'_> {
         self.field::<2>(parts - 1, index + 6)?;
         let flag_agrees = (items != 0) == reference.has_semantics();
         require(flag_agrees, Refusal::TABLE, index + 7)?;
-        Ok(Metric {
-            reference,
-            word,
-            marked: row.parts[0] >= MARK,
-        })
+        Ok(Metric { reference, word, marked: row.parts[0] >= MARK })
     }
 
     /// The first part's count, which ends the header.

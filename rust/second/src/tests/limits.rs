@@ -9,11 +9,7 @@ fn table_of(points: u64, subobjects: u64) -> Table {
     let mut numbers = vec![0, 0, 0, 0x04_0400, 255, points, 1 + subobjects, 0];
     numbers.extend([points, 0]);
     numbers.resize(10 + 2 * subobjects as usize, 0);
-    Table {
-        numbers,
-        elements: vec![u64::MAX; 2 * points as usize],
-        bytes: vec![],
-    }
+    Table { numbers, elements: vec![u64::MAX; 2 * points as usize], bytes: vec![] }
 }
 
 const MOST_POINTS: u64 = (LIMIT as u64 - 484) / 16;

@@ -10,20 +10,12 @@ use crate::{Head, Refusal, Table};
 
 /// A refusal with no year.
 fn refused(number: u64, place: u64) -> Refusal {
-    Refusal {
-        number,
-        place,
-        year: 0,
-    }
+    Refusal { number, place, year: 0 }
 }
 
 /// TOO NEW.
 fn too_new(place: u64, year: u64) -> Refusal {
-    Refusal {
-        number: 8,
-        place,
-        year,
-    }
+    Refusal { number: 8, place, year }
 }
 
 /// The sheet with its sum put right.
@@ -70,14 +62,7 @@ fn sheet_with(records: &[Vec<u8>]) -> Vec<u8> {
 }
 
 /// A record of generalisation 255 with these fields, its other numbers zero.
-fn record(
-    reference: [u8; 3],
-    word: u32,
-    subobjects: u16,
-    points: u16,
-    metric: &[u8],
-    semantics: &[u8],
-) -> Vec<u8> {
+fn record(reference: [u8; 3], word: u32, subobjects: u16, points: u16, metric: &[u8], semantics: &[u8]) -> Vec<u8> {
     let total = (32 + metric.len() + semantics.len()) as u32;
     let mut record = vec![0xFF, 0x7F, 0xFF, 0x7F];
     record.extend_from_slice(&total.to_le_bytes());
@@ -126,17 +111,9 @@ fn head_e() -> Head {
 }
 
 fn table_p() -> Table {
-    Table {
-        numbers: vec![0, 0, 0, 2, 255, 0, 1, 0, 1, 0],
-        elements: vec![3, 4],
-        bytes: vec![],
-    }
+    Table { numbers: vec![0, 0, 0, 2, 255, 0, 1, 0, 1, 0], elements: vec![3, 4], bytes: vec![] }
 }
 
 fn table_q() -> Table {
-    Table {
-        numbers: vec![0, 0, 0, 0x0202, 255, 0, 1, 1, 1, 0, 1, 2, 0xFF, 2],
-        elements: vec![3, 4],
-        bytes: vec![0xF9, 4],
-    }
+    Table { numbers: vec![0, 0, 0, 0x0202, 255, 0, 1, 1, 1, 0, 1, 2, 0xFF, 2], elements: vec![3, 4], bytes: vec![0xF9, 4] }
 }

@@ -65,10 +65,7 @@ fn multipolygon_has_its_year() {
 #[test]
 fn only_nine_settings() {
     for year in (0..3000).chain([u32::MAX]) {
-        let one_of_nine = matches!(
-            year,
-            1999 | 2004 | 2006 | 2008 | 2012 | 2014 | 2015 | 2016 | 2017
-        );
+        let one_of_nine = matches!(year, 1999 | 2004 | 2006 | 2008 | 2012 | 2014 | 2015 | 2016 | 2017);
         assert_eq!(read(&sheet_e(), year).is_ok(), one_of_nine);
         if !one_of_nine {
             assert_eq!(refusal(&[], year), refused(16, 0));
@@ -108,13 +105,8 @@ fn text_fields() {
         longest[length - 1] = 0;
         assert!(read(&changed(&sheet_p(), &[(place, &longest)]), 1999).is_ok());
     }
-    let texts: [(usize, &[u8]); 5] = [
-        (16, b"20180216"),
-        (28, b"N-37"),
-        (60, &[0x50, 0xC3, 0, 0]),
-        (64, b"Moskva"),
-        (408, b"other"),
-    ];
+    let texts: [(usize, &[u8]); 5] =
+        [(16, b"20180216"), (28, b"N-37"), (60, &[0x50, 0xC3, 0, 0]), (64, b"Moskva"), (408, b"other")];
     let head = read(&changed(&sheet_e(), &texts), 1999).unwrap().head;
     assert_eq!(head.date, b"20180216");
     assert_eq!(head.designation, b"N-37");
@@ -267,8 +259,7 @@ fn order_in_a_header() {
     for first in 0..faults.len() {
         // From the last to the first, so that an earlier fault of the same
         // place is the one that stands.
-        let changes: Vec<(usize, &[u8])> =
-            faults[first..].iter().rev().map(|f| (f.0, f.1)).collect();
+        let changes: Vec<(usize, &[u8])> = faults[first..].iter().rev().map(|f| (f.0, f.1)).collect();
         let sheet = changed(&sheet_p(), &changes);
         assert_eq!(refusal(&sheet, 1999), faults[first].2, "{first}");
     }
@@ -297,9 +288,7 @@ fn lengths_of_records() {
 
 #[test]
 fn metric_parts() {
-    let metric = |subobjects, points, metric: &[u8]| {
-        refusal_record(record([2, 0, 0], 0, subobjects, points, metric, &[]))
-    };
+    let metric = |subobjects, points, metric: &[u8]| refusal_record(record([2, 0, 0], 0, subobjects, points, metric, &[]));
     assert_eq!(metric(0, 2, &POINT_3_4), refused(10, 484));
     assert_eq!(metric(0, 0, &POINT_3_4), refused(10, 484));
     assert_eq!(metric(0, 1, &[1, 2, 3, 4, 5]), refused(10, 488));
@@ -477,14 +466,7 @@ fn items_refused() {
 
 #[test]
 fn records_by_number() {
-    let sheet = changed(
-        &sheet_q(),
-        &[
-            (464, &[0xA0, 0xCE, 0xE9, 0x01]),
-            (468, &[5, 0, 6, 1]),
-            (476, &[7]),
-        ],
-    );
+    let sheet = changed(&sheet_q(), &[(464, &[0xA0, 0xCE, 0xE9, 0x01]), (468, &[5, 0, 6, 1]), (476, &[7])]);
     let expected = Record {
         at: 452,
         total: 42,

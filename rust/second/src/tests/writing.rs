@@ -20,11 +20,7 @@ fn refusal_q(index: usize, number: u64) -> Refusal {
 fn table_of(reference: u64, word: u64, parts: &[(u64, u64)], elements: usize) -> Table {
     let mut numbers = vec![0, 0, 0, reference, 255, word, parts.len() as u64, 0];
     numbers.extend(parts.iter().flat_map(|part| [part.0, part.1]));
-    Table {
-        numbers,
-        elements: vec![1; elements],
-        bytes: vec![],
-    }
+    Table { numbers, elements: vec![1; elements], bytes: vec![] }
 }
 
 /// Table Q with another item.
@@ -191,9 +187,7 @@ fn reference_number() {
 
 #[test]
 fn points() {
-    let refusal_of = |year, word, parts: &[(u64, u64)], elements| {
-        refusal(year, &table_of(2, word, parts, elements))
-    };
+    let refusal_of = |year, word, parts: &[(u64, u64)], elements| refusal(year, &table_of(2, word, parts, elements));
     // The pool ends early, or is left over.
     assert_eq!(refusal_of(2017, 0, &[(1, 0)], 1), refused(14, 8));
     assert_eq!(refusal_of(2017, 0, &[(1, 0)], 3), refused(14, 10));
@@ -208,10 +202,7 @@ fn points() {
     assert_eq!(first(2004, 65536, 65535), refused(11, 8));
     assert_eq!(first(2004, 65535, 65536), refused(11, 8));
     assert_eq!(first(2004, 65535, 65535), refused(14, 8));
-    assert_eq!(
-        first(2004, u64::from(u32::MAX), u64::from(u32::MAX)),
-        refused(14, 8)
-    );
+    assert_eq!(first(2004, u64::from(u32::MAX), u64::from(u32::MAX)), refused(14, 8));
     assert_eq!(first(1999, 9, 65534), refused(14, 8));
     // A later count: size, COUNT, pool.
     let later = |count| refusal_of(1999, 9, &[(0, 0), (count, 0)], 0);
@@ -221,10 +212,7 @@ fn points() {
     assert_eq!(later(65536), refused(11, 10));
     assert_eq!(later(65535), refused(14, 10));
     let under_mark = [(65535, 0), (65536, 0)];
-    assert_eq!(
-        refusal_of(2004, 65535, &under_mark, 131_070),
-        refused(14, 10)
-    );
+    assert_eq!(refusal_of(2004, 65535, &under_mark, 131_070), refused(14, 10));
     let table = table_of(2, 65535, &under_mark, 131_070 + 131_072);
     let sheet = write(2004, &head_e(), &table, ROOM).unwrap();
     assert_eq!(read(&sheet, 2004).unwrap().table, table);
@@ -244,10 +232,7 @@ fn elements_too_wide() {
     ];
     for (reference, widths) in shapes {
         let mut table = table_of(reference, 0, &[(1, 0), (1, 0)], 0);
-        let widest: Vec<u64> = widths
-            .iter()
-            .map(|width| u64::MAX >> (64 - width))
-            .collect();
+        let widest: Vec<u64> = widths.iter().map(|width| u64::MAX >> (64 - width)).collect();
         table.elements = [widest.clone(), widest].concat();
         let sheet = write(1999, &head_e(), &table, ROOM).unwrap();
         assert_eq!(read(&sheet, 1999).unwrap().table, table);
@@ -343,10 +328,7 @@ fn pools_left_over() {
     let mut table = table_q();
     table.bytes.push(0);
     assert_eq!(refusal(2017, &table), refused(14, 14));
-    let only_pool = Table {
-        elements: vec![1],
-        ..Table::default()
-    };
+    let only_pool = Table { elements: vec![1], ..Table::default() };
     assert_eq!(refusal(2017, &only_pool), refused(14, 0));
 }
 

@@ -1,0 +1,193 @@
+//! Semantic items of a record, and texts with their codings.
+use crate::coordinates::Number;
+use crate::raw;
+use crate::table::Row;
+use std::fmt;
+
+/// How a text's bytes are coded.
+#[derive(Clone, Copy, Debug, PartialEq, Eq, Hash)]
+pub enum Coding {
+    /// One byte a character, DOS.
+    Dos,
+    /// One byte a character, Windows.
+    Windows,
+    /// One byte a character, KOI-8.
+    Koi8,
+    /// Two bytes a unit, UTF-16 with the low byte first.
+    Utf16,
+}
+
+impl Coding {
+    /// The coding of a sheet's labels: byte +97 of the passport. An accepted sheet has 0 to 2.
+    pub fn of_labels(byte: u8) -> Coding {
+        match byte {
+            0 => Coding::Dos,
+            1 => Coding::Windows,
+            _ => Coding::Koi8,
+        }
+    }
+}
+
+impl fmt::Display for Coding {
+    fn fmt(&self, f: &mut fmt::Formatter<'_>) -> fmt::Result {
+        f.write_str(match self {
+            Coding::Dos => "DOS",
+            Coding::Windows => "Windows",
+            Coding::Koi8 => "KOI-8",
+            Coding::Utf16 => "UTF-16",
+        })
+    }
+}
+
+/// A text as stored, with the coding that it is in.
+#[derive(Clone, Copy, Debug, PartialEq, Eq)]
+pub struct Text<'a> {
+    /// How its bytes are coded.
+    pub coding: Coding,
+    /// Its bytes, without closing zeros.
+    pub bytes: &'a [u8],
+}
+
+impl Text<'_> {
+    /// The units of a text in UTF-16; none for another coding. A last odd byte is left out.
+    pub fn utf16(&self) -> Option<Vec<u16>> {
+        let units = || self.bytes.as_chunks().0.iter().map(|&unit| u16::from_le_bytes(unit)).collect();
+        (self.coding == Coding::Utf16).then(units)
+    }
+}
+
+/// What the value of an item is.
+#[derive(Clone, Copy, Debug, PartialEq)]
+pub enum Value<'a> {
+    /// Types 0 (DOS), 126 (Windows), 127 and 128 (UTF-16).
+    Text(Text<'a>),
+    /// Types 1, 2 and 4: whole × 10^power.
+    Decimal {
+        /// The integer.
+        whole: i64,
+        /// The power of ten, −127 to 127.
+        power: i64,
+    },
+    /// Type 8: a double, or the bits of a NaN.
+    Double(Number),
+    /// What no accepted sheet has: another type, or a value that is not its type's.
+    Unread,
+}
+
+/// A semantic item, as stored.
+#[derive(Clone, Copy, Debug, PartialEq, Eq)]
+pub struct Item<'a> {
+    /// Its code.
+    pub code: u16,
+    /// Its type.
+    pub kind: u8,
+    /// Its scale byte.
+    pub scale: u8,
+    /// Its value with closing zeros, without the length field of type 128.
+    pub bytes: &'a [u8],
+}
+
+impl<'a> Item<'a> {
+    /// What its value is.
+    ///
+    /// ```
+    /// use sxf::{Item, Value};
+    /// // 127.3, source document 000's example 1
+    /// let item = Item { code: 1, kind: 2, scale: 0xFF, bytes: &[0xF9, 0x04] };
+    /// assert_eq!(item.value(), Value::Decimal { whole: 1273, power: -1 });
+    /// ```
+    pub fn value(&self) -> Value<'a> {
+        let value = match self.kind {
+            0 => self.text(Coding::Dos, 1),
+            126 => self.text(Coding::Windows, 1),
+            127 | 128 => self.text(Coding::Utf16, 2),
+            8 => self.bytes.try_into().ok().map(|bytes| Value::Double(Number::of_double(u64::from_le_bytes(bytes)))),
+            _ => self.decimal(),
+        };
+        value.unwrap_or(Value::Unread)
+    }
+
+    fn text(&self, coding: Coding, closing: usize) -> Option<Value<'a>> {
+        let bytes = self.bytes.get(..self.bytes.len().checked_sub(closing)?)?;
+        Some(Value::Text(Text { coding, bytes }))
+    }
+
+    /// The library knows which types have one, and what it is.
+    fn decimal(&self) -> Option<Value<'a>> {
+        if self.bytes.len() != usize::from(self.kind) {
+            return None;
+        }
+        let mut bits = [0; 4];
+        bits.get_mut(..self.bytes.len())?.copy_from_slice(self.bytes);
+        let answer = raw::value_of(self.kind, self.scale, u32::from_le_bytes(bits));
+        let known = answer.number == 0 && answer.is_number != 0;
+        known.then_some(Value::Decimal { whole: answer.whole, power: answer.power })
+    }
+}
+
+/// The items of a record.
+#[derive(Clone, Copy, Debug)]
+pub struct Items<'a> {
+    numbers: &'a [[u64; 4]],
+    values: &'a [u8],
+}
+
+impl<'a> Items<'a> {
+    pub(crate) fn of(row: &Row<'a>) -> Items<'a> {
+        Items { numbers: row.items, values: row.values }
+    }
+}
+
+impl<'a> Items<'a> {
+    fn taken(&self) -> Option<(Item<'a>, Items<'a>)> {
+        let (&[code, kind, scale, length], numbers) = self.numbers.split_first()?;
+        let (bytes, values) = self.values.split_at_checked(usize::try_from(length).ok()?)?;
+        let item =
+            Item { code: u16::try_from(code).ok()?, kind: u8::try_from(kind).ok()?, scale: u8::try_from(scale).ok()?, bytes };
+        Some((item, Items { numbers, values }))
+    }
+}
+
+impl<'a> Iterator for Items<'a> {
+    type Item = Item<'a>;
+
+    fn next(&mut self) -> Option<Item<'a>> {
+        let (item, rest) = self.taken()?;
+        *self = rest;
+        Some(item)
+    }
+}
+
+#[cfg(test)]
+mod tests {
+    use super::*;
+
+    fn value(kind: u8, scale: u8, bytes: &[u8]) -> Value<'_> {
+        Item { code: 0, kind, scale, bytes }.value()
+    }
+
+    #[test]
+    fn texts_lose_their_closing_zeros_and_keep_their_coding() {
+        assert_eq!(value(0, 1, &[0x41, 0]), Value::Text(Text { coding: Coding::Dos, bytes: &[0x41] }));
+        assert_eq!(value(126, 0, &[0]), Value::Text(Text { coding: Coding::Windows, bytes: &[] }));
+        let utf16 = Text { coding: Coding::Utf16, bytes: &[0x41, 4] };
+        assert_eq!(value(128, 0xFF, &[0x41, 4, 0, 0]), Value::Text(utf16));
+        assert_eq!(utf16.utf16(), Some(vec![0x441]));
+    }
+
+    #[test]
+    fn numbers_are_the_librarys() {
+        assert_eq!(value(1, 0, &[0xFF]), Value::Decimal { whole: -1, power: 0 });
+        assert_eq!(value(4, 2, &[1, 2, 3, 4]), Value::Decimal { whole: 0x0403_0201, power: 2 });
+        assert_eq!(value(8, 0x80, &[0, 0, 0, 0, 0, 0, 0xF0, 0x3F]), Value::Double(Number::Double(1.0)));
+    }
+
+    #[test]
+    fn what_no_sheet_has_is_unread() {
+        for (kind, scale, bytes) in
+            [(0, 0, &[][..]), (1, 0x80, &[0]), (2, 0, &[0]), (3, 0, &[0, 0, 0]), (8, 0, &[0]), (77, 0, &[0; 77])]
+        {
+            assert_eq!(value(kind, scale, bytes), Value::Unread, "type {kind}");
+        }
+    }
+}

@@ -1,0 +1,75 @@
+//! Sheets of SXF 4.0, read and written by the proved library.
+//!
+//! What a sheet is, and when it is refused, is document 01's ("the document" below), and the names here are its own words.
+//!
+//! ```
+//! use sxf::{Head, Setting, Sheet, Writer};
+//!
+//! let head = Head { designation: b"N-37-004", scale: 10_000, ..Head::PLAIN };
+//! let bytes = Writer::new(head)?.write(Setting::Y1999)?;
+//! let sheet = Sheet::read(&bytes, Setting::Y2017)?;
+//! assert_eq!(sheet.head()?.designation, b"N-37-004");
+//! assert_eq!(sheet.records().count(), 0);
+//!
+//! let refusal = Sheet::read(&bytes[..451], Setting::Y2017).unwrap_err();
+//! assert_eq!(refusal.name(), "SHORT");
+//! # Ok::<(), sxf::Refusal>(())
+//! ```
+//!
+//! | Module | Subject |
+//! |---|---|
+//! | [`sheet`] | a sheet is checked, read and asked: [`check`], [`record_at`], [`Sheet`] |
+//! | [`head`] | what stands before the records: [`Head`] and [`Corners`] |
+//! | [`record`], [`part`], [`item`] | what a record holds |
+//! | [`reference`](mod@reference) | the three reference bytes of a record |
+//! | [`coordinates`] | units, numbers and coordinates, each unit a type of its own |
+//! | [`table`] | the record table as the library fills and takes it |
+//! | [`writer`] | a sheet is written: [`write()`], [`Writer`] |
+//! | [`years`] | which features a sheet has, and from which year |
+//! | [`refusal`], [`setting`] | refusals, and the nine settings |
+//!
+//! # What is proved, and what is tried
+//!
+//! Proved are the library's answers: what is accepted and refused, with number, place and year; sum, count and sizes; the record table; a
+//! record asked for by number; the lengths of the head's texts; unit, corners, visibility, and the numbers of items; the bytes written. This
+//! crate hands them on. Its own, which tests hold and no proof, are the walk over the table that was unfolded, a record's place in that walk,
+//! what an element's bits stand for, the fields of [`Head`] behind its carried bytes, the room for writing, and the names of features.
+//!
+//! Nothing here panics on what a sheet or a table holds. That an accepted sheet's table is well formed is the library's promise; what goes
+//! against it would end an iteration early, and for good.
+#![deny(missing_docs)]
+#![deny(unsafe_code)]
+#![deny(unsafe_op_in_unsafe_fn)]
+
+pub mod coordinates;
+pub mod head;
+pub mod item;
+pub mod part;
+// The one module that may: it calls the archive.
+#[allow(unsafe_code)]
+mod raw;
+pub mod record;
+pub mod reference;
+pub mod refusal;
+pub mod setting;
+pub mod sheet;
+pub mod table;
+pub mod visibility;
+pub mod writer;
+pub mod years;
+
+pub use coordinates::{Coordinate, Degrees, DevicePoints, ElementKind, Height, Metres, Number, Radians, Unit};
+pub use head::{Corners, Head};
+pub use item::{Coding, Item, Text, Value};
+pub use part::{Part, Point};
+pub use record::{Record, RecordAt};
+pub use reference::{Localisation, Reference};
+pub use refusal::Refusal;
+pub use setting::Setting;
+pub use sheet::{check, record_at, Sheet, Sizes};
+pub use table::{Row, Table, TableRef};
+pub use visibility::Visibility;
+pub use writer::{write, Misfit, NewItem, NewPart, NewRecord, Writer};
+
+/// The most bytes a sheet may have.
+pub const LIMIT: usize = 16_777_216;

@@ -1,0 +1,183 @@
+//! Records of a sheet.
+use crate::coordinates::Unit;
+use crate::item::{Coding, Items};
+use crate::part::Parts;
+use crate::refusal::low32;
+use crate::table::{Row, Rows};
+use crate::{raw, Reference, Visibility};
+
+/// One record, as the library answers it when asked by number.
+#[derive(Clone, Copy, Debug, PartialEq, Eq)]
+pub struct RecordAt {
+    /// Where it starts in the sheet.
+    pub place: usize,
+    /// Its total length.
+    pub total_length: usize,
+    /// Its class code.
+    pub code: u32,
+    /// Its number in its group.
+    pub number_in_group: u16,
+    /// Its group's number.
+    pub group_number: u16,
+    /// Its reference bytes.
+    pub reference: Reference,
+    /// Its generalisation byte.
+    pub generalisation: u8,
+    /// The word at +24.
+    pub word: u32,
+    /// How many parts it has: one more than its subobjects.
+    pub parts: u32,
+    /// How many items it has.
+    pub items: usize,
+    /// How many points its first part has.
+    pub points: u32,
+}
+
+/// The numbers of 16 and 8 bits come as 64; one that does not fit would go against the library's contract.
+fn low16(number: u64) -> u16 {
+    u16::try_from(number).unwrap_or(u16::MAX)
+}
+
+fn low8(number: u64) -> u8 {
+    u8::try_from(number).unwrap_or(u8::MAX)
+}
+
+impl RecordAt {
+    pub(crate) fn of(answer: &raw::Record) -> RecordAt {
+        RecordAt {
+            place: answer.at as usize,
+            total_length: answer.total as usize,
+            code: low32(answer.code),
+            number_in_group: low16(answer.in_group),
+            group_number: low16(answer.group),
+            reference: Reference(low32(answer.reference)),
+            generalisation: low8(answer.generalisation),
+            word: low32(answer.word),
+            parts: low32(answer.parts),
+            items: answer.items as usize,
+            points: low32(answer.points),
+        }
+    }
+}
+
+/// What of a sheet's head its records need.
+#[derive(Clone, Copy, Debug)]
+pub(crate) struct Common {
+    pub unit: Unit,
+    pub information: u8,
+    pub labels: Coding,
+}
+
+/// A record of a sheet.
+#[derive(Clone, Copy, Debug)]
+pub struct Record<'a> {
+    number: usize,
+    place: usize,
+    total_length: usize,
+    common: Common,
+    row: Row<'a>,
+}
+
+impl<'a> Record<'a> {
+    /// Its number in the sheet, from 0.
+    pub fn number(&self) -> usize {
+        self.number
+    }
+
+    /// Where it starts in the sheet.
+    pub fn place(&self) -> usize {
+        self.place
+    }
+
+    /// Its total length.
+    pub fn total_length(&self) -> usize {
+        self.total_length
+    }
+
+    /// Its row of the record table.
+    pub fn row(&self) -> Row<'a> {
+        self.row
+    }
+
+    /// Its class code.
+    pub fn code(&self) -> u32 {
+        low32(self.row.numbers[0])
+    }
+
+    /// Its number in its group.
+    pub fn number_in_group(&self) -> u16 {
+        low16(self.row.numbers[1])
+    }
+
+    /// Its group's number.
+    pub fn group_number(&self) -> u16 {
+        low16(self.row.numbers[2])
+    }
+
+    /// Its reference bytes.
+    pub fn reference(&self) -> Reference {
+        self.row.reference()
+    }
+
+    /// Its generalisation byte.
+    pub fn generalisation(&self) -> u8 {
+        low8(self.row.numbers[4])
+    }
+
+    /// The scales between which it is shown.
+    pub fn visibility(&self) -> Visibility {
+        Visibility::of(self.common.information, self.generalisation())
+    }
+
+    /// The word at +24: the first part's points under the mark, else carried unread.
+    pub fn word(&self) -> u32 {
+        low32(self.row.numbers[5])
+    }
+
+    /// How many points the first part has.
+    pub fn first_points(&self) -> u64 {
+        self.row.parts.first().map_or(0, |[points, _]| *points)
+    }
+
+    /// Its parts: the object itself, then its subobjects.
+    pub fn parts(&self) -> Parts<'a> {
+        Parts::of(&self.row, self.common.unit, self.common.labels)
+    }
+
+    /// Its semantic items.
+    pub fn items(&self) -> Items<'a> {
+        Items::of(&self.row)
+    }
+}
+
+/// The records of a sheet, in order.
+#[derive(Clone, Copy, Debug)]
+pub struct Records<'a> {
+    sheet: &'a [u8],
+    common: Common,
+    rows: Rows<'a>,
+    number: usize,
+    place: usize,
+}
+
+impl<'a> Records<'a> {
+    pub(crate) fn of(sheet: &'a [u8], common: Common, rows: Rows<'a>) -> Records<'a> {
+        Records { sheet, common, rows, number: 0, place: 452 }
+    }
+}
+
+impl<'a> Iterator for Records<'a> {
+    type Item = Record<'a>;
+
+    /// A record starts where the one before it ends, and its total length stands at +4. To ask the library for each would check the whole
+    /// sheet each time.
+    fn next(&mut self) -> Option<Record<'a>> {
+        let mut rows = self.rows;
+        let row = rows.next()?;
+        let total = self.sheet.get(self.place..)?.get(4..)?.first_chunk()?;
+        let total_length = u32::from_le_bytes(*total) as usize;
+        let record = Record { number: self.number, place: self.place, total_length, common: self.common, row };
+        *self = Records { rows, number: self.number + 1, place: self.place.checked_add(total_length)?, ..*self };
+        Some(record)
+    }
+}

@@ -1,0 +1,185 @@
+//! The three reference bytes of a record, bytes 20 to 22, as one number with byte 20 lowest.
+use crate::ElementKind;
+use std::fmt;
+
+/// The reference bytes.
+///
+/// ```
+/// use sxf::reference::{Localisation, Reference};
+/// let reference = Reference::new(Localisation::Areal).with(Reference::FLOATING | Reference::LARGE_ELEMENTS);
+/// assert_eq!(reference.planar().width(), 8);
+/// assert!(!reference.three_dimensions());
+/// ```
+#[derive(Clone, Copy, Debug, Default, PartialEq, Eq, Hash)]
+pub struct Reference(pub u32);
+
+/// What a record stands for on the map.
+#[derive(Clone, Copy, Debug, PartialEq, Eq, Hash)]
+pub enum Localisation {
+    /// 0: a line.
+    Linear,
+    /// 1: an area.
+    Areal,
+    /// 2: a point.
+    Point,
+    /// 3: a label.
+    Label,
+    /// 4: a vector, a point with a direction.
+    Vector,
+    /// 5: a label template.
+    LabelTemplate,
+}
+
+impl Localisation {
+    fn number(self) -> u32 {
+        match self {
+            Localisation::Linear => 0,
+            Localisation::Areal => 1,
+            Localisation::Point => 2,
+            Localisation::Label => 3,
+            Localisation::Vector => 4,
+            Localisation::LabelTemplate => 5,
+        }
+    }
+}
+
+impl fmt::Display for Localisation {
+    fn fmt(&self, f: &mut fmt::Formatter<'_>) -> fmt::Result {
+        f.write_str(match self {
+            Localisation::Linear => "linear",
+            Localisation::Areal => "areal",
+            Localisation::Point => "point",
+            Localisation::Label => "label",
+            Localisation::Vector => "vector",
+            Localisation::LabelTemplate => "label template",
+        })
+    }
+}
+
+macro_rules! bits {
+    ($($bit:literal $constant:ident $asked:ident $words:literal)*) => {
+        impl Reference {
+            $(
+                #[doc = concat!("The bit of: ", $words, ".")]
+                pub const $constant: u32 = 1 << $bit;
+
+                #[doc = concat!("Whether it has: ", $words, ".")]
+                pub fn $asked(self) -> bool {
+                    self.has(Reference::$constant)
+                }
+            )*
+
+            /// The words for the bits that are set, by rising bit. Localisation and spline are not among them.
+            pub fn words(self) -> impl Iterator<Item = &'static str> {
+                [$((Reference::$constant, $words)),*].into_iter().filter(move |(bit, _)| self.has(*bit)).map(|(_, words)| words)
+            }
+        }
+    };
+}
+
+bits! {
+    4 MULTIPOLYGON multipolygon "multipolygon"
+    8 COMPRESSED_GRAPHICS compressed_graphics "compressed graphics"
+    9 SEMANTICS semantics "semantics"
+    10 LARGE_ELEMENTS large_elements "large elements"
+    11 BINDING_VECTOR binding_vector "binding vector"
+    12 UNICODE unicode "Unicode"
+    13 ABOVE_ALL above_all "above all"
+    14 BELOW_ALL below_all "below all"
+    15 VERTICAL_ALIGNMENT vertical_alignment "vertical alignment"
+    17 THREE_DIMENSIONS three_dimensions "three dimensions"
+    18 FLOATING floating "floating"
+    19 TEXT text "text in metric"
+    20 GRAPHICS graphics "graphics"
+    21 SCALABLE scalable "scalable"
+}
+
+impl Reference {
+    /// A localisation and no bit: two dimensions, integers of two bytes.
+    pub fn new(localisation: Localisation) -> Reference {
+        Reference(localisation.number())
+    }
+
+    /// The same with these bits set besides.
+    pub fn with(self, bits: u32) -> Reference {
+        Reference(self.0 | bits)
+    }
+
+    fn has(self, bits: u32) -> bool {
+        self.0 & bits != 0
+    }
+
+    /// Bits 0-3 of byte 20 as a number; over 5 is refused in a sheet.
+    pub fn localisation_number(self) -> u32 {
+        self.0 % 16
+    }
+
+    /// The localisation; none for a number over 5.
+    pub fn localisation(self) -> Option<Localisation> {
+        match self.localisation_number() {
+            0 => Some(Localisation::Linear),
+            1 => Some(Localisation::Areal),
+            2 => Some(Localisation::Point),
+            3 => Some(Localisation::Label),
+            4 => Some(Localisation::Vector),
+            5 => Some(Localisation::LabelTemplate),
+            _ => None,
+        }
+    }
+
+    /// Bits 6-7 of byte 22.
+    pub fn spline(self) -> u32 {
+        self.0 >> 22 & 3
+    }
+
+    /// How a planar element is stored.
+    pub fn planar(self) -> ElementKind {
+        match (self.floating(), self.large_elements()) {
+            (false, false) => ElementKind::Short,
+            (false, true) => ElementKind::Long,
+            (true, false) => ElementKind::Single,
+            (true, true) => ElementKind::Double,
+        }
+    }
+
+    /// How a height is stored, in three dimensions: 8 bytes where planar elements are 8, else 4.
+    pub fn height(self) -> Option<ElementKind> {
+        match (self.three_dimensions(), self.planar()) {
+            (false, _) => None,
+            (true, ElementKind::Double) => Some(ElementKind::Double),
+            (true, _) => Some(ElementKind::Single),
+        }
+    }
+
+    /// How many elements a point has: 2 or 3.
+    pub fn elements(self) -> usize {
+        2 + usize::from(self.three_dimensions())
+    }
+
+    /// How many bytes a point has.
+    pub fn point_size(self) -> usize {
+        2 * self.planar().width() + self.height().map_or(0, ElementKind::width)
+    }
+}
+
+#[cfg(test)]
+mod tests {
+    use super::*;
+
+    #[test]
+    fn a_point_has_the_documents_sizes() {
+        let sizes = |more| {
+            [0, Reference::FLOATING, Reference::LARGE_ELEMENTS, Reference::FLOATING | Reference::LARGE_ELEMENTS]
+                .map(|bits| Reference(bits | more).point_size())
+        };
+        assert_eq!(sizes(0), [4, 8, 8, 16]);
+        assert_eq!(sizes(Reference::THREE_DIMENSIONS), [8, 12, 12, 24]);
+    }
+
+    #[test]
+    fn words_are_by_rising_bit() {
+        let words: Vec<_> = Reference(0x40_3111).words().collect();
+        assert_eq!(words, ["multipolygon", "compressed graphics", "Unicode", "above all"]);
+        assert_eq!(Reference(0x40_3111).spline(), 1);
+    }
+}

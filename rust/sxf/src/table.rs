@@ -1,0 +1,320 @@
+//! The record table: what unfolding fills and the writer takes.
+//!
+//! Per record eight numbers: code, number in group, group number, reference bytes, generalisation, word at +24, parts, items. Then per part
+//! two: points, text length. Then per item four: code, type, scale byte, value length. Beside the numbers stand a pool of elements as stored
+//! bits and a pool of bytes: texts without their closing zero, values with theirs.
+use crate::reference::Reference;
+use crate::refusal::low32;
+use crate::{raw, Refusal, Setting, Sizes};
+use std::fmt;
+
+/// Where a record's eight numbers stand in its row.
+mod column {
+    pub const REFERENCE: usize = 3;
+    pub const PARTS: usize = 6;
+    pub const ITEMS: usize = 7;
+}
+
+/// A record table of one's own.
+#[derive(Clone, Debug, Default, PartialEq, Eq)]
+pub struct Table {
+    /// The numbers.
+    pub numbers: Vec<u64>,
+    /// The pool of elements, as stored bits.
+    pub elements: Vec<u64>,
+    /// The pool of bytes.
+    pub bytes: Vec<u8>,
+}
+
+/// A record table that is lent.
+#[derive(Clone, Copy, Debug, Default, PartialEq, Eq)]
+pub struct TableRef<'a> {
+    /// The numbers.
+    pub numbers: &'a [u64],
+    /// The pool of elements, as stored bits.
+    pub elements: &'a [u64],
+    /// The pool of bytes.
+    pub bytes: &'a [u8],
+}
+
+/// One record's part of a table. The numbers are as they stand there, also where a writer would refuse them.
+#[derive(Clone, Copy, Debug, PartialEq, Eq)]
+pub struct Row<'a> {
+    /// Code, number in group, group number, reference bytes, generalisation, word, parts, items.
+    pub numbers: &'a [u64; 8],
+    /// Of each part its points and its text length.
+    pub parts: &'a [[u64; 2]],
+    /// Of each item its code, type, scale byte and value length.
+    pub items: &'a [[u64; 4]],
+    /// The elements of all parts.
+    pub elements: &'a [u64],
+    /// The texts of all parts.
+    pub texts: &'a [u8],
+    /// The values of all items.
+    pub values: &'a [u8],
+}
+
+impl Table {
+    /// Unfolds a sheet. The room is asked for first, and is exact.
+    ///
+    /// ```
+    /// use sxf::{Setting, Table};
+    /// # let sheet = sxf::Writer::new(sxf::Head::PLAIN)?.write(Setting::Y1999)?;
+    /// assert_eq!(Table::unfold(&sheet, Setting::Y2017)?, Table::default());
+    /// # Ok::<(), sxf::Refusal>(())
+    /// ```
+    pub fn unfold(sheet: &[u8], setting: Setting) -> Result<Table, Refusal> {
+        let sizes = crate::check(sheet, setting)?;
+        Table::unfold_sized(sheet, setting, &sizes)
+    }
+
+    pub(crate) fn unfold_sized(sheet: &[u8], setting: Setting, sizes: &Sizes) -> Result<Table, Refusal> {
+        let mut table = Table { numbers: vec![0; sizes.numbers], elements: vec![0; sizes.elements], bytes: vec![0; sizes.bytes] };
+        unfold_into(sheet, setting, &mut table.numbers, &mut table.elements, &mut table.bytes)?;
+        Ok(table)
+    }
+
+    /// The table, lent.
+    pub fn lend(&self) -> TableRef<'_> {
+        TableRef { numbers: &self.numbers, elements: &self.elements, bytes: &self.bytes }
+    }
+
+    /// The rows, in record order.
+    pub fn rows(&self) -> Rows<'_> {
+        self.lend().rows()
+    }
+
+    /// Adds a row as it is.
+    pub fn push_row(&mut self, row: Row<'_>) {
+        self.numbers.extend_from_slice(row.numbers);
+        self.numbers.extend_from_slice(row.parts.as_flattened());
+        self.numbers.extend_from_slice(row.items.as_flattened());
+        self.elements.extend_from_slice(row.elements);
+        self.bytes.extend_from_slice(row.texts);
+        self.bytes.extend_from_slice(row.values);
+    }
+}
+
+/// Unfolds a sheet into lent slices; ROOM has place 1, 2 or 3 for the first that is too small. A refusal leaves them as they were.
+pub fn unfold_into(
+    sheet: &[u8],
+    setting: Setting,
+    numbers: &mut [u64],
+    elements: &mut [u64],
+    bytes: &mut [u8],
+) -> Result<Sizes, Refusal> {
+    Sizes::of(raw::unfold(sheet, setting.year(), numbers, elements, bytes))
+}
+
+impl<'a> TableRef<'a> {
+    /// The rows, in record order. It ends before a row that calls for more than there is.
+    pub fn rows(self) -> Rows<'a> {
+        Rows { rest: self }
+    }
+
+    /// How long the sheet of this table is, if the table is well formed: what the writer needs room for.
+    pub fn sheet_length(self) -> Option<usize> {
+        let mut rows = self.rows();
+        let length = rows.by_ref().try_fold(452, |length: usize, row| length.checked_add(row.record_length()?))?;
+        (rows.rest == TableRef::default()).then_some(length)
+    }
+
+    /// Which number of which record stands at an index, as the writer's refusals name it. None past the last row that is whole; the pools
+    /// are not looked at.
+    pub fn spot(self, index: usize) -> Option<Spot> {
+        let (mut rest, mut start) = (self.numbers, 0);
+        for record in 0.. {
+            let (row, later) = RowNumbers::take(rest)?;
+            let within = index.checked_sub(start)?;
+            if within < row.length() {
+                return Some(row.spot(record, within));
+            }
+            start += row.length();
+            rest = later;
+        }
+        None
+    }
+
+    fn take_row(self) -> Option<(Row<'a>, TableRef<'a>)> {
+        let (RowNumbers { numbers, parts, items }, rest) = RowNumbers::take(self.numbers)?;
+        let elements = total(parts.iter().map(|[points, _]| points))?.checked_mul(reference_of(numbers).elements())?;
+        let (elements, elements_rest) = self.elements.split_at_checked(elements)?;
+        let (texts, bytes) = self.bytes.split_at_checked(total(parts.iter().map(|[_, text]| text))?)?;
+        let (values, bytes) = bytes.split_at_checked(total(items.iter().map(|[_, _, _, value]| value))?)?;
+        let row = Row { numbers, parts, items, elements, texts, values };
+        Some((row, TableRef { numbers: rest, elements: elements_rest, bytes }))
+    }
+}
+
+/// The numbers of a row, without the pools.
+struct RowNumbers<'a> {
+    numbers: &'a [u64; 8],
+    parts: &'a [[u64; 2]],
+    items: &'a [[u64; 4]],
+}
+
+impl<'a> RowNumbers<'a> {
+    fn take(table: &'a [u64]) -> Option<(RowNumbers<'a>, &'a [u64])> {
+        let (numbers, rest) = table.split_first_chunk::<8>()?;
+        let (parts, rest) = take_arrays(rest, numbers[column::PARTS])?;
+        let (items, rest) = take_arrays(rest, numbers[column::ITEMS])?;
+        Some((RowNumbers { numbers, parts, items }, rest))
+    }
+
+    fn length(&self) -> usize {
+        8 + self.parts.as_flattened().len() + self.items.as_flattened().len()
+    }
+
+    fn spot(&self, record: usize, within: usize) -> Spot {
+        let Some(at) = within.checked_sub(8) else {
+            return Spot { record, inner: Inner::Number(within) };
+        };
+        let inner = match at.checked_sub(self.parts.as_flattened().len()) {
+            None => Inner::Part(at / 2, at % 2),
+            Some(at) => Inner::Item(at / 4, at % 4),
+        };
+        Spot { record, inner }
+    }
+}
+
+fn reference_of(numbers: &[u64; 8]) -> Reference {
+    Reference(low32(numbers[column::REFERENCE]))
+}
+
+/// So many arrays of N numbers, and the numbers after them.
+fn take_arrays<const N: usize>(numbers: &[u64], count: u64) -> Option<(&[[u64; N]], &[u64])> {
+    let length = usize::try_from(count).ok()?.checked_mul(N)?;
+    let (arrays, rest) = numbers.split_at_checked(length)?;
+    Some((arrays.as_chunks().0, rest))
+}
+
+fn total<'a>(mut numbers: impl Iterator<Item = &'a u64>) -> Option<usize> {
+    numbers.try_fold(0usize, |sum, &n| sum.checked_add(usize::try_from(n).ok()?))
+}
+
+impl<'a> Row<'a> {
+    /// The reference bytes.
+    pub fn reference(&self) -> Reference {
+        reference_of(self.numbers)
+    }
+
+    /// How many bytes its record has: header, metric and semantics.
+    fn record_length(&self) -> Option<usize> {
+        let reference = self.reference();
+        let points = self.elements.len() / reference.elements();
+        let heads = self.parts.len().checked_sub(1)?.checked_mul(4)?;
+        // A length byte and a closing zero beside each text.
+        let texts = if reference.text() { self.parts.len().checked_mul(2)?.checked_add(self.texts.len())? } else { 0 };
+        let values = self.items.iter().try_fold(0usize, |sum, item| sum.checked_add(item_length(item)?))?;
+        [points.checked_mul(reference.point_size())?, heads, texts, values].into_iter().try_fold(32, usize::checked_add)
+    }
+}
+
+/// The bytes of an item: its head, the length field of type 128, its value.
+fn item_length(&[_, kind, _, value]: &[u64; 4]) -> Option<usize> {
+    usize::try_from(value).ok()?.checked_add(if kind == 128 { 8 } else { 4 })
+}
+
+/// The rows of a table.
+#[derive(Clone, Copy, Debug)]
+pub struct Rows<'a> {
+    rest: TableRef<'a>,
+}
+
+impl<'a> Rows<'a> {
+    /// What is left of the table.
+    pub fn rest(&self) -> TableRef<'a> {
+        self.rest
+    }
+}
+
+impl<'a> Iterator for Rows<'a> {
+    type Item = Row<'a>;
+
+    fn next(&mut self) -> Option<Row<'a>> {
+        let (row, rest) = self.rest.take_row()?;
+        self.rest = rest;
+        Some(row)
+    }
+}
+
+/// Which number of which record. It is told in words, as `record 0, reference bytes`.
+#[derive(Clone, Copy, Debug, PartialEq, Eq)]
+pub struct Spot {
+    /// The record's number, from 0.
+    pub record: usize,
+    inner: Inner,
+}
+
+#[derive(Clone, Copy, Debug, PartialEq, Eq)]
+enum Inner {
+    Number(usize),
+    Part(usize, usize),
+    Item(usize, usize),
+}
+
+const NUMBERS: [&str; 8] =
+    ["code", "number in group", "group number", "reference bytes", "generalisation", "word at +24", "parts", "items"];
+
+fn word<'a>(words: &[&'a str], index: usize) -> &'a str {
+    words.get(index).copied().unwrap_or("?")
+}
+
+impl fmt::Display for Spot {
+    fn fmt(&self, f: &mut fmt::Formatter<'_>) -> fmt::Result {
+        write!(f, "record {}, ", self.record)?;
+        match self.inner {
+            Inner::Number(i) => f.write_str(word(&NUMBERS, i)),
+            Inner::Part(part, i) => write!(f, "part {part}, {}", word(&["points", "text length"], i)),
+            Inner::Item(item, i) => write!(f, "item {item}, {}", word(&["code", "type", "scale byte", "value length"], i)),
+        }
+    }
+}
+
+#[cfg(test)]
+mod tests {
+    use super::*;
+
+    const Q: [u64; 14] = [0, 0, 0, 0x202, 255, 0, 1, 1, 1, 0, 1, 2, 0xFF, 2];
+
+    fn q() -> TableRef<'static> {
+        TableRef { numbers: &Q, elements: &[3, 4], bytes: &[0xF9, 4] }
+    }
+
+    #[test]
+    fn a_row_is_taken_whole() {
+        let row = q().rows().next().expect("a row");
+        assert_eq!((row.parts, row.items), (&[[1, 0]][..], &[[1, 2, 0xFF, 2]][..]));
+        assert_eq!((row.elements, row.texts, row.values), (&[3, 4][..], &[][..], &[0xF9, 4][..]));
+        assert_eq!(q().sheet_length(), Some(494));
+    }
+
+    #[test]
+    fn a_row_that_calls_for_more_than_there_is_ends_the_rows() {
+        for broken in [
+            TableRef { numbers: &Q[..13], ..q() },
+            TableRef { numbers: &Q[..7], ..q() },
+            TableRef { elements: &[3], ..q() },
+            TableRef { bytes: &[0xF9], ..q() },
+            TableRef { numbers: &[0, 0, 0, 0, 0, 0, u64::MAX, u64::MAX], ..q() },
+            TableRef { numbers: &[0, 0, 0, 0, 0, 0, 1, 0, u64::MAX, 0], ..q() },
+            TableRef { numbers: &[0, 0, 0, 0, 0, 0, 2, 0, u64::MAX, 0, 1, u64::MAX], ..q() },
+        ] {
+            assert_eq!(broken.rows().next(), None);
+            assert_eq!(broken.sheet_length(), None);
+        }
+    }
+
+    #[test]
+    fn spots_are_told_in_words() {
+        let told = |index| q().spot(index).map(|spot| spot.to_string());
+        assert_eq!(told(3).as_deref(), Some("record 0, reference bytes"));
+        assert_eq!(told(9).as_deref(), Some("record 0, part 0, text length"));
+        assert_eq!(told(13).as_deref(), Some("record 0, item 0, value length"));
+        assert_eq!((told(14), told(usize::MAX)), (None, None));
+        let twice = [Q, Q].concat();
+        let told = |index| TableRef { numbers: &twice, ..q() }.spot(index).map(|spot| spot.to_string());
+        assert_eq!(told(14 + 10).as_deref(), Some("record 1, item 0, code"));
+        assert_eq!(TableRef { numbers: &Q[..13], ..q() }.spot(0), None);
+    }
+}

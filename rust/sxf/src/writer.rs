@@ -1,0 +1,381 @@
+//! A sheet is written, from a head and a record table.
+use crate::coordinates::{Coordinate, ElementKind, Unit};
+use crate::head::Head;
+use crate::item::Coding;
+use crate::part::Point;
+use crate::table::{Row, Table, TableRef};
+use crate::{raw, Reference, Refusal, Setting, Sheet, LIMIT};
+use std::error::Error;
+use std::fmt;
+
+/// Writes a sheet. The room is worked out from the table, and is exact.
+///
+/// A refusal's place is a byte of the sheet where it is the head's, and an index of the table's numbers where it is the table's; the head is
+/// checked first, so [`check_head`] tells which.
+///
+/// ```
+/// use sxf::{write, Head, Setting, TableRef};
+/// // Document 01's sheet P.
+/// let head = Head { designation: b"A", designation2: b"A", ..Head::PLAIN };
+/// let table = TableRef { numbers: &[0, 0, 0, 2, 255, 0, 1, 0, 1, 0], elements: &[3, 4], bytes: &[] };
+/// let sheet = write(&head, table, Setting::Y1999)?;
+/// assert_eq!(sxf::check(&sheet, Setting::Y1999)?.sum, 1865);
+/// # Ok::<(), sxf::Refusal>(())
+/// ```
+pub fn write(head: &Head<'_>, table: TableRef<'_>, setting: Setting) -> Result<Vec<u8>, Refusal> {
+    // A table with no length is refused for its form, and one over the limit for that, both before ROOM.
+    let room = table.sheet_length().unwrap_or(0).min(LIMIT);
+    let mut out = vec![0; room];
+    let length = write_into(head, table, setting, &mut out)?;
+    out.truncate(length);
+    Ok(out)
+}
+
+/// Writes a sheet into a lent slice: how many of its bytes are the sheet. A refusal leaves it as it was.
+pub fn write_into(head: &Head<'_>, table: TableRef<'_>, setting: Setting, out: &mut [u8]) -> Result<usize, Refusal> {
+    let answer = raw::write(setting.year(), head, table, out);
+    Refusal::answered(answer.number, answer.place, answer.year)?;
+    Ok(answer.length as usize)
+}
+
+/// Whether a head is refused, whatever the table: the sheet of no record is written.
+pub fn check_head(head: &Head<'_>, setting: Setting) -> Result<(), Refusal> {
+    write(head, TableRef::default(), setting).map(drop)
+}
+
+/// A sheet to be written: its head, and the records pushed so far.
+#[derive(Clone, Debug)]
+pub struct Writer<'a> {
+    head: Head<'a>,
+    unit: Unit,
+    table: Table,
+}
+
+impl<'a> Writer<'a> {
+    /// A sheet of no record. A head that is refused at the latest setting is refused here.
+    pub fn new(head: Head<'a>) -> Result<Writer<'a>, Refusal> {
+        let empty = write(&head, TableRef::default(), Setting::Y2017)?;
+        let unit = Sheet::read(&empty, Setting::Y2017)?.unit();
+        Ok(Writer { head, unit, table: Table::default() })
+    }
+
+    /// The unit of the sheet, which its head says.
+    pub fn unit(&self) -> Unit {
+        self.unit
+    }
+
+    /// The record table so far.
+    pub fn table(&self) -> TableRef<'_> {
+        self.table.lend()
+    }
+
+    /// Adds a typed record. Coordinates must be in the sheet's unit, and numbers such that the record's elements hold them; nothing is
+    /// rounded. What else is wrong with it is refused when the sheet is written.
+    ///
+    /// ```
+    /// use sxf::{Head, Localisation, Reference, NewItem, NewPart, NewRecord, Number, Point, Setting, Writer};
+    ///
+    /// let mut writer = Writer::new(Head::PLAIN)?;
+    /// let device = |n| writer.unit().coordinate(Number::Whole(n));
+    /// let point = Point { x: device(3), y: device(4), height: None };
+    /// let record = NewRecord::new(0, Reference::new(Localisation::Point))
+    ///     .part(NewPart::new(vec![point]))
+    ///     .item(NewItem::decimal(1, 1273, -1)?);
+    /// writer.push(&record)?;
+    /// assert_eq!(writer.write(Setting::Y1999)?.len(), 494);
+    /// # Ok::<(), Box<dyn std::error::Error>>(())
+    /// ```
+    pub fn push(&mut self, record: &NewRecord) -> Result<(), Misfit> {
+        let elements = record.elements(self.unit)?;
+        self.table.numbers.extend(record.numbers());
+        self.table.elements.extend(elements);
+        self.table.bytes.extend(record.parts.iter().flat_map(|part| &part.text));
+        self.table.bytes.extend(record.items.iter().flat_map(|item| &item.bytes));
+        Ok(())
+    }
+
+    /// Adds a row as it is, as of a record that was read. Its elements are taken as stored, in whatever unit the sheet has.
+    pub fn push_row(&mut self, row: Row<'_>) {
+        self.table.push_row(row);
+    }
+
+    /// Writes the sheet.
+    pub fn write(&self, setting: Setting) -> Result<Vec<u8>, Refusal> {
+        write(&self.head, self.table.lend(), setting)
+    }
+}
+
+/// A record to be written.
+#[derive(Clone, Debug, PartialEq)]
+pub struct NewRecord {
+    /// Its class code.
+    pub code: u32,
+    /// Its number in its group.
+    pub number_in_group: u16,
+    /// Its group's number.
+    pub group_number: u16,
+    /// Its reference bytes.
+    pub reference: Reference,
+    /// Its generalisation byte; 255 is unset.
+    pub generalisation: u8,
+    /// The word at +24: the first part's points where they are 65535 or more, else carried unread.
+    pub word: u32,
+    /// The object itself, then its subobjects.
+    pub parts: Vec<NewPart>,
+    /// Its semantic items.
+    pub items: Vec<NewItem>,
+}
+
+impl NewRecord {
+    /// A record of no part and no item, visibility unset.
+    pub fn new(code: u32, reference: Reference) -> NewRecord {
+        let (parts, items) = (Vec::new(), Vec::new());
+        NewRecord { code, number_in_group: 0, group_number: 0, reference, generalisation: 255, word: 0, parts, items }
+    }
+
+    /// The same with one more part. A first part of 65535 points or more has its count in the word.
+    pub fn part(mut self, part: NewPart) -> NewRecord {
+        if self.parts.is_empty() && part.points.len() >= 65535 {
+            // A count that does not fit is far over the limit of a sheet.
+            self.word = u32::try_from(part.points.len()).unwrap_or(u32::MAX);
+        }
+        self.parts.push(part);
+        self
+    }
+
+    /// The same with one more item, and the semantics flag that says so.
+    pub fn item(mut self, item: NewItem) -> NewRecord {
+        self.reference = self.reference.with(Reference::SEMANTICS);
+        self.items.push(item);
+        self
+    }
+
+    fn numbers(&self) -> impl Iterator<Item = u64> + '_ {
+        let row = [
+            u64::from(self.code),
+            u64::from(self.number_in_group),
+            u64::from(self.group_number),
+            u64::from(self.reference.0),
+            u64::from(self.generalisation),
+            u64::from(self.word),
+            self.parts.len() as u64,
+            self.items.len() as u64,
+        ];
+        let parts = self.parts.iter().flat_map(|part| [part.points.len() as u64, part.text.len() as u64]);
+        let items = self.items.iter().flat_map(NewItem::numbers);
+        row.into_iter().chain(parts).chain(items)
+    }
+
+    fn elements(&self, unit: Unit) -> Result<Vec<u64>, Misfit> {
+        let mut elements = Vec::new();
+        for (part, new) in self.parts.iter().enumerate() {
+            for (point, at) in new.points.iter().enumerate() {
+                let misfit = |why| Misfit { part, point, why };
+                store(at, self.reference, unit, &mut elements).map_err(misfit)?;
+            }
+        }
+        Ok(elements)
+    }
+}
+
+fn store(point: &Point, reference: Reference, unit: Unit, elements: &mut Vec<u64>) -> Result<(), Why> {
+    for coordinate in [point.x, point.y] {
+        elements.push(planar_bits(coordinate, reference.planar(), unit)?);
+    }
+    match (reference.height(), point.height) {
+        (None, None) => Ok(()),
+        (Some(kind), Some(height)) => {
+            elements.push(kind.bits(height.number()).ok_or(Why::Number(kind))?);
+            Ok(())
+        }
+        (called_for, _) => Err(Why::Height(called_for.is_some())),
+    }
+}
+
+fn planar_bits(coordinate: Coordinate, kind: ElementKind, unit: Unit) -> Result<u64, Why> {
+    if coordinate.unit() != unit {
+        return Err(Why::Unit(coordinate.unit(), unit));
+    }
+    kind.bits(coordinate.number()).ok_or(Why::Number(kind))
+}
+
+/// A part to be written.
+#[derive(Clone, Debug, Default, PartialEq)]
+pub struct NewPart {
+    /// Its points.
+    pub points: Vec<Point>,
+    /// Its text, without the closing zero; empty without the text bit.
+    pub text: Vec<u8>,
+}
+
+impl NewPart {
+    /// A part of these points, with no text.
+    pub fn new(points: Vec<Point>) -> NewPart {
+        NewPart { points, text: Vec::new() }
+    }
+
+    /// The same with a text, in the coding of the sheet's labels, or in UTF-16 where the record has the Unicode bit.
+    pub fn text(mut self, text: impl Into<Vec<u8>>) -> NewPart {
+        self.text = text.into();
+        self
+    }
+}
+
+/// A semantic item to be written.
+#[derive(Clone, Debug, PartialEq, Eq)]
+pub struct NewItem {
+    /// Its code.
+    pub code: u16,
+    /// Its type.
+    pub kind: u8,
+    /// Its scale byte.
+    pub scale: u8,
+    /// Its value with closing zeros, without the length field of type 128.
+    pub bytes: Vec<u8>,
+}
+
+impl NewItem {
+    /// A number, whole × 10^power, in the smallest of types 1, 2 and 4 that holds it. A power of −128 has no scale byte.
+    pub fn decimal(code: u16, whole: i32, power: i8) -> Result<NewItem, NoSuchItem> {
+        if power == i8::MIN {
+            return Err(NoSuchItem);
+        }
+        let bytes = whole.to_le_bytes();
+        let kind = if i8::try_from(whole).is_ok() {
+            1
+        } else if i16::try_from(whole).is_ok() {
+            2
+        } else {
+            4
+        };
+        let bytes = bytes.into_iter().take(usize::from(kind)).collect();
+        Ok(NewItem { code, kind, scale: power as u8, bytes })
+    }
+
+    /// A double, type 8, with scale byte 0.
+    pub fn double(code: u16, value: f64) -> NewItem {
+        NewItem { code, kind: 8, scale: 0, bytes: value.to_le_bytes().to_vec() }
+    }
+
+    /// A text of one byte a character, at most 255 of them: type 0 for DOS, 126 for Windows. No type has KOI-8.
+    pub fn text(code: u16, coding: Coding, text: &[u8]) -> Result<NewItem, NoSuchItem> {
+        let kind = match coding {
+            Coding::Dos => 0,
+            Coding::Windows => 126,
+            Coding::Koi8 | Coding::Utf16 => return Err(NoSuchItem),
+        };
+        let scale = u8::try_from(text.len()).map_err(|_| NoSuchItem)?;
+        Ok(NewItem { code, kind, scale, bytes: [text, &[0]].concat() })
+    }
+
+    /// A text in UTF-16: type 127 for at most 255 units, else type 128, which came in 2012.
+    pub fn utf16(code: u16, text: &str) -> NewItem {
+        let bytes: Vec<u8> = text.encode_utf16().chain([0]).flat_map(u16::to_le_bytes).collect();
+        match u8::try_from(text.encode_utf16().count()) {
+            Ok(scale) => NewItem { code, kind: 127, scale, bytes },
+            Err(_) => NewItem { code, kind: 128, scale: 0xFF, bytes },
+        }
+    }
+
+    fn numbers(&self) -> [u64; 4] {
+        [u64::from(self.code), u64::from(self.kind), u64::from(self.scale), self.bytes.len() as u64]
+    }
+}
+
+/// No type of item holds that value.
+#[derive(Clone, Copy, Debug, PartialEq, Eq)]
+pub struct NoSuchItem;
+
+impl fmt::Display for NoSuchItem {
+    fn fmt(&self, f: &mut fmt::Formatter<'_>) -> fmt::Result {
+        f.write_str("no type of semantic item holds that value")
+    }
+}
+
+impl Error for NoSuchItem {}
+
+/// A point that does not fit its record or its sheet.
+#[derive(Clone, Copy, Debug, PartialEq, Eq)]
+pub struct Misfit {
+    /// The part's number, from 0.
+    pub part: usize,
+    /// The point's number, from 0.
+    pub point: usize,
+    /// What does not fit.
+    pub why: Why,
+}
+
+/// What does not fit.
+#[derive(Clone, Copy, Debug, PartialEq, Eq)]
+pub enum Why {
+    /// A coordinate in the first unit, where the sheet has the second.
+    Unit(Unit, Unit),
+    /// A number that an element of this kind does not hold exactly.
+    Number(ElementKind),
+    /// A height is missing (true), or there is one in two dimensions (false).
+    Height(bool),
+}
+
+impl fmt::Display for Misfit {
+    fn fmt(&self, f: &mut fmt::Formatter<'_>) -> fmt::Result {
+        write!(f, "part {}, point {}: ", self.part, self.point)?;
+        match self.why {
+            Why::Unit(given, unit) => write!(f, "a coordinate in {given}, where the sheet is in {unit}"),
+            Why::Number(kind) => write!(f, "a number that its element ({kind:?}) does not hold exactly"),
+            Why::Height(true) => f.write_str("no height, where the record has three dimensions"),
+            Why::Height(false) => f.write_str("a height, where the record has two dimensions"),
+        }
+    }
+}
+
+impl Error for Misfit {}
+
+#[cfg(test)]
+mod tests {
+    use super::*;
+    use crate::coordinates::{Height, Number};
+    use crate::reference::Localisation;
+
+    fn point(unit: Unit, x: i64) -> Point {
+        let at = |n| unit.coordinate(Number::Whole(n));
+        Point { x: at(x), y: at(0), height: None }
+    }
+
+    fn pushed(reference: Reference, point: Point) -> Result<(), Why> {
+        let record = NewRecord::new(0, reference).part(NewPart::new(vec![point]));
+        Writer::new(Head::PLAIN).expect("a plain head").push(&record).map_err(|misfit| misfit.why)
+    }
+
+    #[test]
+    fn a_point_must_fit() {
+        let plane = Reference::new(Localisation::Point);
+        let space = plane.with(Reference::THREE_DIMENSIONS);
+        let device = Unit::DevicePoints;
+        assert_eq!(pushed(plane, point(device, 65535)), Ok(()));
+        assert_eq!(pushed(plane, point(device, 65536)), Err(Why::Number(ElementKind::Short)));
+        assert_eq!(pushed(plane, point(Unit::Metres, 1)), Err(Why::Unit(Unit::Metres, device)));
+        assert_eq!(pushed(space, point(device, 1)), Err(Why::Height(true)));
+        let high = |number| Point { height: Some(Height::new(number)), ..point(device, 1) };
+        assert_eq!(pushed(plane, high(Number::Single(1.0))), Err(Why::Height(false)));
+        assert_eq!(pushed(space, high(Number::Single(1.0))), Ok(()));
+        assert_eq!(pushed(space, high(Number::Whole(1))), Err(Why::Number(ElementKind::Single)));
+    }
+
+    #[test]
+    fn a_refused_push_adds_nothing() {
+        let mut writer = Writer::new(Head::PLAIN).expect("a plain head");
+        let part = NewPart::new(vec![point(Unit::DevicePoints, 1), point(Unit::DevicePoints, -1)]);
+        assert!(writer.push(&NewRecord::new(0, Reference(0)).part(part)).is_err());
+        assert_eq!(writer.table(), TableRef::default());
+    }
+
+    #[test]
+    fn items_are_of_the_smallest_type() {
+        let decimal = |whole| NewItem::decimal(1, whole, -1).expect("a scale").bytes;
+        assert_eq!((decimal(-128), decimal(128), decimal(-40_000)), (vec![0x80], vec![0x80, 0], vec![0xC0, 0x63, 0xFF, 0xFF]));
+        assert_eq!(NewItem::decimal(1, 0, -128), Err(NoSuchItem));
+        assert_eq!(NewItem::text(1, Coding::Dos, &[1; 256]), Err(NoSuchItem));
+        assert_eq!(NewItem::utf16(1, "ab").bytes, [0x61, 0, 0x62, 0, 0, 0]);
+        assert_eq!(NewItem::utf16(1, &"a".repeat(256)).kind, 128);
+    }
+}

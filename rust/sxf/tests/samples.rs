@@ -1,0 +1,309 @@
+//! The wrapper over the sample sheets, and over what is left of them when a byte or a number is changed.
+use std::fs;
+use std::path::PathBuf;
+use sxf::{
+    check, record_at, write, Coding, Head, Height, Item, Localisation, NewItem, NewPart, NewRecord, Number, Point, Reference,
+    Setting, Sheet, Table, TableRef, Text, Unit, Value,
+};
+
+fn sample(name: &str) -> Vec<u8> {
+    let path = PathBuf::from(env!("CARGO_MANIFEST_DIR")).join("../../samples").join(name).with_extension("sxf");
+    fs::read(&path).unwrap_or_else(|error| panic!("{}: {error}", path.display()))
+}
+
+const ACCEPTED: [&str; 9] = ["E", "P", "Q", "head", "labels", "heights", "items", "long", "dated"];
+
+/// With the number and place that samples/sheets.txt states.
+const REFUSED: [(&str, u32, usize); 8] = [
+    ("sum-wrong", 5, 12),
+    ("too-short", 2, 0),
+    ("not-sxf", 3, 0),
+    ("dirty-tail", 6, 28),
+    ("closing", 6, 493),
+    ("graphics", 9, 474),
+    ("left-over", 13, 488),
+    ("mark-small", 11, 476),
+];
+
+fn read(bytes: &[u8]) -> Sheet<'_> {
+    Sheet::read(bytes, Setting::Y2017).expect("an accepted sheet")
+}
+
+#[test]
+fn each_sample_is_accepted_or_refused() {
+    for name in ACCEPTED {
+        let bytes = sample(name);
+        let sheet = read(&bytes);
+        assert_eq!(sheet.records().count(), sheet.record_count(), "{name}");
+        assert_eq!(sheet.sizes(), check(&bytes, Setting::Y2017).expect(name));
+    }
+    for (name, number, place) in REFUSED {
+        let refusal = Sheet::read(&sample(name), Setting::Y2017).expect_err(name);
+        assert_eq!((refusal.number, refusal.place, refusal.year), (number, place, 0), "{name}");
+    }
+}
+
+/// The walk over the unfolded table says of each record what the library says of it when asked.
+#[test]
+fn records_are_as_the_library_answers_them() {
+    for name in ACCEPTED {
+        let bytes = sample(name);
+        let sheet = read(&bytes);
+        for record in sheet.records() {
+            let asked = record_at(&bytes, Setting::Y2017, record.number() as u64).expect(name);
+            assert_eq!((record.place(), record.total_length()), (asked.place, asked.total_length));
+            assert_eq!(
+                (record.code(), record.number_in_group(), record.group_number()),
+                (asked.code, asked.number_in_group, asked.group_number)
+            );
+            assert_eq!(
+                (record.reference(), record.generalisation(), record.word()),
+                (asked.reference, asked.generalisation, asked.word)
+            );
+            assert_eq!((record.parts().count(), record.items().count()), (asked.parts as usize, asked.items));
+            assert_eq!(record.first_points(), u64::from(asked.points));
+        }
+        assert_eq!(sheet.record(sheet.record_count()).expect_err(name).name(), "ASK");
+        assert_eq!(record_at(&bytes, Setting::Y2017, u64::MAX).expect_err(name).name(), "ASK");
+    }
+}
+
+#[test]
+fn samples_are_written_back_from_their_tables() {
+    for name in ACCEPTED {
+        let bytes = sample(name);
+        let sheet = read(&bytes);
+        assert_eq!(sheet.table().sheet_length(), Some(bytes.len()), "{name}");
+        assert!(write(&sheet.head().expect(name), sheet.table(), Setting::Y2017).as_ref() == Ok(&bytes), "{name}");
+    }
+}
+
+fn copied(sheet: &Sheet<'_>) -> Vec<NewRecord> {
+    let new_part = |part: sxf::Part<'_>| NewPart {
+        points: part.points().collect(),
+        text: part.text().map_or(Vec::new(), |t| t.bytes.to_vec()),
+    };
+    let new_item = |item: Item<'_>| NewItem { code: item.code, kind: item.kind, scale: item.scale, bytes: item.bytes.to_vec() };
+    let new_record = |record: sxf::Record<'_>| NewRecord {
+        code: record.code(),
+        number_in_group: record.number_in_group(),
+        group_number: record.group_number(),
+        reference: record.reference(),
+        generalisation: record.generalisation(),
+        word: record.word(),
+        parts: record.parts().map(new_part).collect(),
+        items: record.items().map(new_item).collect(),
+    };
+    sheet.records().map(new_record).collect()
+}
+
+#[test]
+fn samples_are_written_back_from_typed_records() {
+    for name in ACCEPTED {
+        let bytes = sample(name);
+        let sheet = read(&bytes);
+        let mut writer = sxf::Writer::new(sheet.head().expect(name)).expect(name);
+        for record in copied(&sheet) {
+            writer.push(&record).expect(name);
+        }
+        assert!(writer.write(Setting::Y2017).as_ref() == Ok(&bytes), "{name}");
+    }
+}
+
+#[test]
+fn the_head_is_told() {
+    let bytes = sample("head");
+    let sheet = read(&bytes);
+    let head = sheet.head().expect("a head");
+    assert_eq!((head.date, head.scale, head.designation2), (&b"20170101"[..], 10_000, &b"N-37-004"[..]));
+    assert_eq!((head.designation, head.title), (&b"N-37-004-A-b-3, the river sheet"[..], &b"North bank, upper terrace, 1:10"[..]));
+    assert_eq!((sheet.unit(), head.label_coding()), (Unit::Degrees, Coding::Windows));
+    assert_eq!(sheet.corners().expect("corners").nan_at, None);
+}
+
+#[test]
+fn a_nan_corner_stays_its_bits() {
+    let mut rest = *Head::PLAIN.rest;
+    rest[104 - 96 + 8..104 - 96 + 16].copy_from_slice(&0x7FF0_0000_0000_0001u64.to_le_bytes());
+    rest[104 - 96..104 - 96 + 8].copy_from_slice(&1.5f64.to_le_bytes());
+    let bytes = write(&Head { rest: &rest, ..Head::PLAIN }, TableRef::default(), Setting::Y2017).expect("a sheet");
+    let corners = read(&bytes).corners().expect("corners");
+    assert_eq!(
+        (corners.nan_at, corners.sw_x, corners.sw_y),
+        (Some(112), Number::Double(1.5), Number::NotNumber(0x7FF0_0000_0000_0001))
+    );
+}
+
+#[test]
+fn points_heights_and_texts_are_told() {
+    let bytes = sample("heights");
+    let sheet = read(&bytes);
+    let told: Vec<Vec<String>> = sheet
+        .records()
+        .map(|record| {
+            record
+                .parts()
+                .flat_map(|part| part.points())
+                .map(|p| format!("{} {} {}", p.x.number(), p.y.number(), p.height.map_or("-".into(), |h| h.number().to_string())))
+                .collect()
+        })
+        .collect();
+    assert_eq!(told, [vec!["1 2 1.0", "3 4 2.0"], vec!["1 2 1.0"], vec!["1.0 2.0 3.0"], vec!["1.0 2.0 3.0"]]);
+
+    let bytes = sample("labels");
+    let sheet = read(&bytes);
+    let texts: Vec<_> = sheet.records().flat_map(|r| r.parts().map(|part| part.text()).collect::<Vec<_>>()).collect();
+    let dos = |bytes| Some(Text { coding: Coding::Dos, bytes });
+    assert_eq!(texts, [dos(b"Gas main"), dos(b""), dos(b"x")]);
+}
+
+#[test]
+fn values_of_items_are_told() {
+    let bytes = sample("items");
+    let sheet = read(&bytes);
+    let record = sheet.record(0).expect("a record");
+    let values: Vec<_> = record.items().map(|item| item.value()).collect();
+    let text = |coding, bytes| Value::Text(Text { coding, bytes });
+    let expected = [
+        text(Coding::Dos, b"ABC"),
+        text(Coding::Windows, b""),
+        text(Coding::Utf16, b"A\0"),
+        Value::Decimal { whole: -1, power: 0 },
+        Value::Decimal { whole: 1273, power: -1 },
+        Value::Decimal { whole: 0x0403_0201, power: 2 },
+        Value::Double(Number::Double(1.0)),
+        text(Coding::Utf16, b"A\0"),
+    ];
+    assert_eq!(values, expected);
+}
+
+/// A record with everything: three dimensions, two parts with texts, two items; and a record after it.
+#[test]
+fn texts_values_and_heights_stand_apart() {
+    let plane = |n| Unit::DevicePoints.coordinate(Number::Whole(n));
+    let point = |n: i64| Point { x: plane(n), y: plane(n + 1), height: Some(Height::new(Number::Single(0.5))) };
+    let reference = Reference::new(Localisation::Label).with(Reference::TEXT | Reference::THREE_DIMENSIONS);
+    let record = NewRecord::new(7, reference)
+        .part(NewPart::new(vec![point(1), point(3)]).text("first"))
+        .part(NewPart::new(vec![point(5)]).text("second"))
+        .item(NewItem::text(1, Coding::Windows, b"third").expect("a text"))
+        .item(NewItem::double(2, -0.0));
+    let mut writer = sxf::Writer::new(Head::PLAIN).expect("a plain head");
+    for _ in 0..2 {
+        writer.push(&record).expect("a record that fits");
+    }
+    let bytes = writer.write(Setting::Y1999).expect("a sheet");
+    assert_eq!(copied(&read(&bytes)), [record.clone(), record]);
+}
+
+/// The coordinates of the sheet's unit, as the passport's flags and the byte at +236 say.
+#[test]
+fn coordinates_are_in_the_sheets_unit() {
+    let units = [
+        (3, 0, Unit::DevicePoints),
+        (0x1B, 0, Unit::Metres),
+        (0x1B, 64, Unit::Radians),
+        (0x1B, 65, Unit::Degrees),
+        (0x1B, 9, Unit::Unknown(9)),
+    ];
+    for (flags, byte, unit) in units {
+        let mut rest = *Head::PLAIN.rest;
+        (rest[0], rest[236 - 96]) = (flags, byte);
+        let mut writer = sxf::Writer::new(Head { rest: &rest, ..Head::PLAIN }).expect("a head");
+        assert_eq!(writer.unit(), unit);
+        let at = unit.coordinate(Number::Whole(3));
+        let part = NewPart::new(vec![Point { x: at, y: at, height: None }]);
+        writer.push(&NewRecord::new(0, Reference::new(Localisation::Point)).part(part.clone())).expect("a point that fits");
+        let bytes = writer.write(Setting::Y1999).expect("a sheet");
+        assert_eq!(copied(&read(&bytes))[0].parts, [part]);
+        assert_eq!(read(&bytes).unit(), unit);
+    }
+}
+
+#[test]
+fn years_are_met_one_after_another() {
+    let bytes = sample("dated");
+    let years = sxf::years::of(&bytes);
+    let told: Vec<_> = years.features.iter().map(|f| (f.setting.year(), f.place, f.year, f.name(&bytes))).collect();
+    assert_eq!(told, [(1999, 98, 2006, "accuracy not 0"), (2006, 100, 2017, "EPSG not 0")]);
+    assert_eq!(years.outcome.map(|(setting, _)| setting), Ok(Setting::Y2017));
+}
+
+#[test]
+fn the_limit_is_the_librarys() {
+    let refusal = check(&vec![0; sxf::LIMIT + 1], Setting::Y2017).expect_err("over the limit");
+    assert_eq!((refusal.name(), refusal.place), ("TOO LONG", 0));
+    assert_eq!(check(&vec![0; sxf::LIMIT], Setting::Y2017).expect_err("no sheet").name(), "NOT SXF");
+}
+
+/// A count under the mark, and a table over the limit.
+#[test]
+fn many_points_are_written_with_the_mark() {
+    let table = |points: u64| Table {
+        numbers: vec![7, 0, 0, 0, 255, points, 1, 0, points, 0],
+        elements: vec![1; 2 * points as usize],
+        bytes: Vec::new(),
+    };
+    let marked = table(70_000);
+    let bytes = write(&Head::PLAIN, marked.lend(), Setting::Y2004).expect("a sheet");
+    assert_eq!(read(&bytes).table(), marked.lend());
+    assert_eq!(write(&Head::PLAIN, marked.lend(), Setting::Y1999).expect_err("the mark").name(), "TOO NEW");
+    assert_eq!(write(&Head::PLAIN, table(5_000_000).lend(), Setting::Y2017).expect_err("20 MB").name(), "TOO LONG");
+}
+
+fn put_sum_right(sheet: &mut [u8]) {
+    sheet[12..16].fill(0);
+    let sum: u32 = sheet.iter().map(|&b| u32::from(b)).sum();
+    sheet[12..16].copy_from_slice(&sum.to_le_bytes());
+}
+
+fn walk(sheet: &Sheet<'_>) -> usize {
+    let of_record = |record: sxf::Record<'_>| {
+        let points: usize = record.parts().map(|part| part.points().count()).sum();
+        let unread = record.items().filter(|item| item.value() == Value::Unread).count();
+        assert_eq!(unread, 0, "an accepted sheet has no such item");
+        points + record.items().count()
+    };
+    sheet.records().map(of_record).sum()
+}
+
+/// Each byte of each small sample, changed: it is refused, or it is read whole and written back.
+#[test]
+fn damaged_samples_are_refused_or_written_back() {
+    for name in ACCEPTED.into_iter().chain(REFUSED.map(|(name, ..)| name)).filter(|&name| name != "long") {
+        let bytes = sample(name);
+        for place in 0..bytes.len() {
+            for flip in [1, 2, 4, 8, 16, 32, 64, 128, 255] {
+                let mut damaged = bytes.clone();
+                damaged[place] ^= flip;
+                if place >= 16 && damaged.len() >= 16 {
+                    put_sum_right(&mut damaged);
+                }
+                sxf::years::of(&damaged).features.iter().for_each(|feature| assert!(!feature.name(&damaged).is_empty()));
+                let Ok(sheet) = Sheet::read(&damaged, Setting::Y2017) else { continue };
+                walk(&sheet);
+                let again = write(&sheet.head().expect(name), sheet.table(), Setting::Y2017);
+                assert!(again.as_ref() == Ok(&damaged), "{name}, byte {place} ^ {flip}");
+            }
+        }
+    }
+}
+
+/// Each number of each small sample's table, changed: it is refused, or what is written unfolds to the same table. ROOM is never given.
+#[test]
+fn changed_tables_are_refused_or_read_back() {
+    for name in ACCEPTED.into_iter().filter(|&name| name != "long") {
+        let bytes = sample(name);
+        let (head, table) = (read(&bytes).head().expect(name), read(&bytes).into_table());
+        for index in 0..table.numbers.len() {
+            for number in [0, 1, 2, 3, 8, 127, 128, 255, 256, 65_535, 65_536, 1 << 24, u64::from(u32::MAX), u64::MAX] {
+                let mut changed = table.clone();
+                changed.numbers[index] = number;
+                match write(&head, changed.lend(), Setting::Y2017) {
+                    Err(refusal) => assert_ne!(refusal.name(), "ROOM", "{name}, index {index}, number {number}"),
+                    Ok(written) => assert_eq!(Table::unfold(&written, Setting::Y2017), Ok(changed)),
+                }
+            }
+        }
+    }
+}
