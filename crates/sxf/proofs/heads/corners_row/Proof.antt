@@ -1,5 +1,11 @@
-use mathlib.Core.Path.{sym, ap, _∙_}
-use Rattle.sxf.specs.Answers.{cornersRow, bitsRow}
+use Prim.Native.Nat.{ℕ}
+use mathlib.Core.Path.{_≡_, refl, sym, ap, _∙_}
+use Rattle.layout.specs.declared.CornerBits.{CornerBits}
+use Rattle.layout.specs.declared.Corners.the-variants.{Doubles}
+use Rattle.layout.specs.declared.Corners.{Corners}
+use Rattle.layout.specs.declared.PlaneCorners.{PlaneCorners}
+use Rattle.sxf.specs.Answers.{cornersRow, bitsRow, bitsOf}
+use Rattle.sxf.specs.declared.heads.SxfCorners.{SxfCorners}
 use borrow.Author.Needs.{needs}
 use Rattle.sxf.proofs.heads.corners_row.Statement.{statement}
 use Rattle.sxf.proofs.heads.corners_row.Tie as tie
@@ -7,9 +13,14 @@ use Rattle.sxf.proofs.heads.corners_row.Tie as tie
 bits-of-requires : tie.Need-bits-of-requires
 bits-of-requires c κs = c .before .before .before .pre _ (c .before .c .given .1)
 
-returns : tie.Need-returns
+-- eight numbers, with the place that the code gives
+by-place : (x : Corners) (d : PlaneCorners) (place : ℕ) (b : CornerBits) (r : SxfCorners) → r ≡ bitsRow place b → place ≡ 0 → b ≡ bitsOf d → x ≡ Doubles d
+    → r ≡ cornersRow x
 unfolding cornersRow
-returns c = c .bits-row .ensures ∙ ap (bitsRow 0) (c .before .bits-of .ensures) ∙ sym (ap cornersRow (c .before .before .before .c .given .1))
+by-place x d place b r q z h e = q ∙ ap (λ k. bitsRow k b) z ∙ ap (bitsRow 0) h ∙ sym (ap cornersRow e)
+
+returns : tie.Need-returns
+returns c = by-place _ _ _ _ _ (c .bits-row .ensures) refl (c .before .bits-of .ensures) (c .before .before .before .c .given .1)
 
 returns-2 : tie.Need-returns-2
 unfolding cornersRow
