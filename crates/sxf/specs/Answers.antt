@@ -17,7 +17,7 @@ use Rattle.layout.specs.declared.PlaneCorners.{PlaneCorners}
 use Rattle.layout.specs.declared.SemanticValue.{SemanticValue}
 use Rattle.layout.specs.declared.SemanticValue.the-variants as Value
 use Rattle.layout.specs.declared.SheetUnit.{SheetUnit}
-use Rattle.layout.specs.declared.SheetUnit.the-variants as Unit
+use Rattle.layout.specs.declared.SheetUnit.the-variants as In
 use Rattle.layout.specs.declared.UnitAnswer.{UnitAnswer}
 use Rattle.layout.specs.declared.UnitAnswer.the-variants as Unit-of
 use Rattle.layout.specs.declared.Visibility.{Visibility}
@@ -90,11 +90,11 @@ abbrev pub unitAs : ℕ → ℕ → SxfUnit
 unitAs n byte = record { number = 0; place = 0; year = 0; «unit» = n; byte = byte }
 
 unfoldable pub unitKnown : SheetUnit → SxfUnit
-unitKnown Unit.DevicePoints = unitAs 1 0
-unitKnown Unit.Metres = unitAs 2 0
-unitKnown Unit.Radians = unitAs 3 0
-unitKnown Unit.Degrees = unitAs 4 0
-unitKnown (Unit.Unknown b) = unitAs 5 b
+unitKnown In.DevicePoints = unitAs 1 0
+unitKnown In.Metres = unitAs 2 0
+unitKnown In.Radians = unitAs 3 0
+unitKnown In.Degrees = unitAs 4 0
+unitKnown (In.Unknown b) = unitAs 5 b
 
 unfoldable pub unitRow : UnitAnswer → SxfUnit
 unitRow (Unit-of.Unit u) = unitKnown u
@@ -156,7 +156,7 @@ cornersRow (Corner.Refused r) =
 abbrev aNumber : Float → Type 0
 aNumber x = T (not (isNan x))
 
--- Only for the contracts of private functions: all eight are numbers.
+-- Only for the contracts of private functions: all eight are numbers, and so are the corners where they are answered as doubles.
 pub record Numbers (d : PlaneCorners) : Type 0 where
   pub sw-x : aNumber (d .«sw_x»)
   pub sw-y : aNumber (d .«sw_y»)
@@ -166,6 +166,11 @@ pub record Numbers (d : PlaneCorners) : Type 0 where
   pub ne-y : aNumber (d .«ne_y»)
   pub se-x : aNumber (d .«se_x»)
   pub se-y : aNumber (d .«se_y»)
+
+unfoldable pub Defined : Corners → Type 0
+Defined (Corner.Doubles d) = Numbers d
+Defined (Corner.Bits place b) = Unit {0}
+Defined (Corner.Refused r) = Unit {0}
 
 unfoldable pub visibilityRow : Visibility → SxfVisibility
 visibilityRow Visible.Unset = record { set = 0; lower = 0; upper = 0 }

@@ -2,7 +2,7 @@
 ghost use mathlib.Core.Path.{_≡_};
 ghost use Rattle.layout.specs.Answers.Calls.{reading};
 ghost use Rattle.layout.specs.Answers.Enums.{headedOf, unitIn, cornersIn};
-ghost use Rattle.sxf.specs.Answers.{headRow, unitRow, unitKnown, unitAs, cornersRow, bitsRow, bitsOf, Numbers};
+ghost use Rattle.sxf.specs.Answers.{headRow, unitRow, unitKnown, unitAs, cornersRow, bitsRow, bitsOf, Numbers, Defined};
 use layout::CornerBits;
 use layout::Corners;
 use layout::Headed;
@@ -177,7 +177,7 @@ fn bits_row(nan_at: usize, b: CornerBits) -> SxfCorners
 }
 
 fn corners_row(c: Corners) -> SxfCorners
-    requires { ⌜ ((d : PlaneCorners) → c ≡ Corners.Doubles d → Numbers d) ⌝ }
+    requires { ⌜ Defined c ⌝ }
     ensures { λ r. ⌜ r ≡ cornersRow c ⌝ }
 {
     match c {

@@ -1,17 +1,18 @@
 use Prim.Native.Nat.{ℕ}
-use mathlib.Core.Path.{_≡_, refl, sym, ap, _∙_}
+use mathlib.Core.Path.{_≡_, refl, sym, ap, subst, _∙_}
 use Rattle.layout.specs.declared.CornerBits.{CornerBits}
 use Rattle.layout.specs.declared.Corners.the-variants.{Doubles}
 use Rattle.layout.specs.declared.Corners.{Corners}
 use Rattle.layout.specs.declared.PlaneCorners.{PlaneCorners}
-use Rattle.sxf.specs.Answers.{cornersRow, bitsRow, bitsOf}
+use Rattle.sxf.specs.Answers.{cornersRow, bitsRow, bitsOf, Defined}
 use Rattle.sxf.specs.declared.heads.SxfCorners.{SxfCorners}
 use borrow.Author.Needs.{needs}
 use Rattle.sxf.proofs.heads.corners_row.Statement.{statement}
 use Rattle.sxf.proofs.heads.corners_row.Tie as tie
 
 bits-of-requires : tie.Need-bits-of-requires
-bits-of-requires c κs = c .before .before .before .pre _ (c .before .c .given .1)
+unfolding Defined
+bits-of-requires c κs = subst Defined (c .before .c .given .1) (c .before .before .before .pre)
 
 -- eight numbers, with the place that the code gives
 by-place : (x : Corners) (d : PlaneCorners) (place : ℕ) (b : CornerBits) (r : SxfCorners) → r ≡ bitsRow place b → place ≡ 0 → b ≡ bitsOf d → x ≡ Doubles d

@@ -1,19 +1,20 @@
 use denote.Ref.{now}
-use mathlib.Core.Path.{sym, ap, _∙_}
+use mathlib.Core.Path.{sym, ap, subst, _∙_}
 use Rattle.layout.specs.Answers.Calls.{reading}
 use Rattle.layout.specs.Answers.Enums.{cornersIn}
-use Rattle.sxf.proofs.Doubles.{sheet-numbers, no-doubles}
+use Rattle.sxf.proofs.Doubles.{sheet-defined}
 use Rattle.sxf.proofs.Settings.{known, corners-unknown}
-use Rattle.sxf.specs.Answers.{cornersRow}
+use Rattle.sxf.specs.Answers.{cornersRow, Defined}
 use borrow.Author.Needs.{needs}
 use Rattle.sxf.proofs.heads.sxf_corners_of.Statement.{statement}
 use Rattle.sxf.proofs.heads.sxf_corners_of.Tie as tie
 
 corners-row-requires : tie.Need-corners-row-requires
-corners-row-requires c κs = λ d e. sheet-numbers _ d (sym (c .corners-of .ensures) ∙ e)
+corners-row-requires c κs = subst Defined (sym (c .corners-of .ensures)) (sheet-defined _)
 
 corners-row-requires-2 : tie.Need-corners-row-requires-2
-corners-row-requires-2 c κs = λ d e. no-doubles _ d e
+unfolding Defined
+corners-row-requires-2 c κs = tt
 
 returns : tie.Need-returns
 returns c = known (λ z. cornersIn (reading z (now (c .before .before .before .before .before .before .before .args .sheet)))) cornersRow (c .before .before .before .before .before .before .before .args .year) _ _ _ _ (c .before .before .before .before .before .new .ensures .0) (c .before .before .before .at .given .1) (c .before .corners-of .ensures) (c .corners-row .ensures)

@@ -1,9 +1,15 @@
 use native.Mathlib.Omega.{arith}
+use Prim.Native.Nat.{ℕ}
+use mir.Syntax.{w32, w64}
+use mir.Val.{Fits}
 use mathlib.Core.Path.{sym, ap}
 use Rattle.sxf.specs.Answers.{recordRow}
 use borrow.Author.Needs.{needs}
 use Rattle.sxf.proofs.records.record_row.Statement.{statement}
 use Rattle.sxf.proofs.records.record_row.Tie as tie
+
+wider : {n : ℕ} → Fits w32 n → Fits w64 n
+wider f = record { fits = omega (arith, f .fits) }
 
 returns : tie.Need-returns
 unfolding recordRow
@@ -25,7 +31,7 @@ record-row-spec =
     (λ c. search needs)
     (λ c. search needs)
     (λ c. search needs)
-    (λ c. omega (arith, c .struct-known8 .given .1 .1 .1 .1 .1 .1 .1 .1 .1 .1 .0))
+    (λ c. wider (c .struct-known8 .given .1 .1 .1 .1 .1 .1 .1 .1 .1 .1 .0))
     (λ c. search needs)
     (λ c. search needs)
     (λ c. search needs)
