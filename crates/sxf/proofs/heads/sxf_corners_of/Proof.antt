@@ -2,7 +2,7 @@ use denote.Ref.{now}
 use mathlib.Core.Path.{sym, ap, subst, _∙_}
 use Rattle.layout.specs.Answers.Calls.{reading}
 use Rattle.layout.specs.Answers.Enums.{cornersIn}
-use Rattle.sxf.proofs.Doubles.{sheet-defined}
+use Rattle.sxf.proofs.Corners.{sheet-defined}
 use Rattle.sxf.proofs.Settings.{known, corners-unknown}
 use Rattle.sxf.specs.Answers.{cornersRow, Defined}
 use borrow.Author.Needs.{needs}
