@@ -3,7 +3,8 @@
  *
  * It prints the lines of the program `listing`: length, sum and count of records, then for each record its number, place, total length,
  * code, number in group, group number, localisation, points of its first part and items; or REFUSED and the refusal. Between these stand
- * indented lines: the unit, and for each item its code, its type and its value.
+ * indented lines: the unit, and for each item its code, its type and its value. FILE may be as long as the library takes, where `listing`
+ * stops at 65,536 bytes.
  *
  * Exit status: 0 listed and written back; 1 the sheet is refused, or COPY differs; 2 anything else, said on standard error.
  */

@@ -1,9 +1,7 @@
 -- The answers as C holds them.
 use Prim.Native.Nat.{ℕ}
-use lib.Dec.{T}
-use lib.Ieee.{Float, binary64, isNan, toBits}
+use lib.Ieee.{Float, binary64, toBits}
 use lib.IntN.{pos}
-use mathlib.Core.Bool.{not}
 use Rattle.layout.specs.declared.Checked.{Checked}
 use Rattle.layout.specs.declared.Checked.the-variants as Check
 use Rattle.layout.specs.declared.CornerBits.{CornerBits}
@@ -152,25 +150,6 @@ cornersRow (Corner.Refused r) =
       «se_x» = 0;
       «se_y» = 0;
     }
-
-abbrev aNumber : Float → Type 0
-aNumber x = T (not (isNan x))
-
--- Only for the contracts of private functions: all eight are numbers, and so are the corners where they are answered as doubles.
-pub record Numbers (d : PlaneCorners) : Type 0 where
-  pub sw-x : aNumber (d .«sw_x»)
-  pub sw-y : aNumber (d .«sw_y»)
-  pub nw-x : aNumber (d .«nw_x»)
-  pub nw-y : aNumber (d .«nw_y»)
-  pub ne-x : aNumber (d .«ne_x»)
-  pub ne-y : aNumber (d .«ne_y»)
-  pub se-x : aNumber (d .«se_x»)
-  pub se-y : aNumber (d .«se_y»)
-
-unfoldable pub Defined : Corners → Type 0
-Defined (Corner.Doubles d) = Numbers d
-Defined (Corner.Bits place b) = Unit {0}
-Defined (Corner.Refused r) = Unit {0}
 
 unfoldable pub visibilityRow : Visibility → SxfVisibility
 visibilityRow Visible.Unset = record { set = 0; lower = 0; upper = 0 }

@@ -2,7 +2,8 @@
 ghost use mathlib.Core.Path.{_≡_};
 ghost use Rattle.layout.specs.Answers.Calls.{reading};
 ghost use Rattle.layout.specs.Answers.Enums.{headedOf, unitIn, cornersIn};
-ghost use Rattle.sxf.specs.Answers.{headRow, unitRow, unitKnown, unitAs, cornersRow, bitsRow, bitsOf, Numbers, Defined};
+ghost use Rattle.sxf.specs.Answers.{headRow, unitRow, unitKnown, unitAs, cornersRow, bitsRow, bitsOf};
+ghost use Rattle.sxf.specs.Doubles.{Numbers, Defined};
 use layout::CornerBits;
 use layout::Corners;
 use layout::Headed;

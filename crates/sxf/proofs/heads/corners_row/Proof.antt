@@ -4,7 +4,8 @@ use Rattle.layout.specs.declared.CornerBits.{CornerBits}
 use Rattle.layout.specs.declared.Corners.the-variants.{Doubles}
 use Rattle.layout.specs.declared.Corners.{Corners}
 use Rattle.layout.specs.declared.PlaneCorners.{PlaneCorners}
-use Rattle.sxf.specs.Answers.{cornersRow, bitsRow, bitsOf, Defined}
+use Rattle.sxf.specs.Answers.{cornersRow, bitsRow, bitsOf}
+use Rattle.sxf.specs.Doubles.{Defined}
 use Rattle.sxf.specs.declared.heads.SxfCorners.{SxfCorners}
 use borrow.Author.Needs.{needs}
 use Rattle.sxf.proofs.heads.corners_row.Statement.{statement}

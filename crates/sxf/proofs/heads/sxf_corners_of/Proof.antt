@@ -4,7 +4,8 @@ use Rattle.layout.specs.Answers.Calls.{reading}
 use Rattle.layout.specs.Answers.Enums.{cornersIn}
 use Rattle.sxf.proofs.Corners.{sheet-defined}
 use Rattle.sxf.proofs.Settings.{known, corners-unknown}
-use Rattle.sxf.specs.Answers.{cornersRow, Defined}
+use Rattle.sxf.specs.Answers.{cornersRow}
+use Rattle.sxf.specs.Doubles.{Defined}
 use borrow.Author.Needs.{needs}
 use Rattle.sxf.proofs.heads.sxf_corners_of.Statement.{statement}
 use Rattle.sxf.proofs.heads.sxf_corners_of.Tie as tie
