@@ -98,7 +98,7 @@ fn of_record(r: RecordAt) -> Answer {
     )
 }
 
-pub fn record_at(s: Sheet, at: Setting, number: u32) -> Answer {
+pub fn record_at(s: Sheet, at: Setting, number: u64) -> Answer {
     let s = summed(s);
     let bytes = s.bytes;
     match reading::records::record_at(start(&bytes, s.length), at, number) {

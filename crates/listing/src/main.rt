@@ -42,7 +42,7 @@ fn line(number_of: u32, r: RecordAt) {
 
 fn lines(s: &[u8], records: u32) {
     for i in 0..records {
-        match reading::records::record_at(s, Setting::Y2017, i) {
+        match reading::records::record_at(s, Setting::Y2017, i as u64) {
             Found::Record(r) => {
                 line(i, r);
             }

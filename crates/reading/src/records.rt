@@ -23,7 +23,7 @@ use layout::Refusal;
 use views::setting::Setting;
 
 // Where the record of a number starts: from header to header, by their total lengths.
-fn place_of(s: &[u8], number: u32) -> usize
+fn place_of(s: &[u8], number: u64) -> usize
     requires { ⌜ Hops number 452 (now s) ⌝ }
     ensures { λ r. ⌜ r ≡ placeIn number 452 (now (s .entry)) ⌝ }
 {
@@ -74,7 +74,7 @@ fn record_by(xs: &[u8], place: usize, count: usize) -> RecordAt
 }
 
 // The record of a number, of a sheet that is accepted at a year and has so many records.
-fn record_in(s: &[u8], year: u32, number: u32, count: u32) -> Found
+fn record_in(s: &[u8], year: u32, number: u64, count: u64) -> Found
     requires { ⌜ AcceptedAt (now s) year count ⌝ }
     ensures { λ r. ⌜ r ≡ foundOf (andThen (answer (upTo year) (sheetWalk (now (s .entry)))) (λ t. recordOf start (t .records) number)) ⌝ }
 {
@@ -94,11 +94,11 @@ fn record_in(s: &[u8], year: u32, number: u32, count: u32) -> Found
 }
 
 // A number that is not below the count is refused after the sheet's own refusals.
-pub fn record_at(s: &[u8], at: Setting, number: u32) -> Found
+pub fn record_at(s: &[u8], at: Setting, number: u64) -> Found
     ensures { λ r. ⌜ r ≡ foundOf (asked (at .year) (now (s .entry)) number) ⌝ }
 {
     match check(s, at) {
-        Checked::Accepted(sizes) => record_in(s, at.year(), number, sizes.records),
+        Checked::Accepted(sizes) => record_in(s, at.year(), number, sizes.records as u64),
         Checked::Refused(r) => Found::Refused(r),
     }
 }

@@ -1,5 +1,17 @@
 -- Each call has one right answer for each input: two results that meet its contract are equal, and so is what they leave in the lent
 -- slices.
+use Rattle.sxf.proofs.heads.sxf_corners_of.Kinds as corners-of-kinds
+use Rattle.sxf.proofs.heads.sxf_corners_of.Reads as corners-of
+use Rattle.sxf.proofs.heads.sxf_head_of.Kinds as head-of-kinds
+use Rattle.sxf.proofs.heads.sxf_head_of.Reads as head-of
+use Rattle.sxf.proofs.heads.sxf_unit_of.Kinds as unit-of-kinds
+use Rattle.sxf.proofs.heads.sxf_unit_of.Reads as unit-of
+use Rattle.sxf.proofs.meanings.sxf_value_of.Kinds as value-of-kinds
+use Rattle.sxf.proofs.meanings.sxf_value_of.Reads as value-of
+use Rattle.sxf.proofs.meanings.sxf_visibility_of.Kinds as visibility-of-kinds
+use Rattle.sxf.proofs.meanings.sxf_visibility_of.Reads as visibility-of
+use Rattle.sxf.proofs.records.sxf_record_at.Kinds as record-at-kinds
+use Rattle.sxf.proofs.records.sxf_record_at.Reads as record-at
 use Rattle.sxf.proofs.sheets.sxf_check.Kinds as check-kinds
 use Rattle.sxf.proofs.sheets.sxf_check.Reads as check-sheet
 use Rattle.sxf.proofs.sheets.sxf_unfold.Kinds as unfold-kinds
@@ -31,3 +43,21 @@ pub once-sxf-written : (κs : Lfts 10) (a : Dens κs write-kinds.ps) (x y : resT
     → write-sheet.Post κs a x e → write-sheet.Post κs a y f
     → now (e .1 .1 .1 .1 .1 .1 .1 .1 .1 .1 .1 .0) ≡ now (f .1 .1 .1 .1 .1 .1 .1 .1 .1 .1 .1 .0)
 once-sxf-written κs a x y e f p q = p .1 ∙ sym (q .1)
+
+pub once-sxf-record-at : Once record-at-kinds.ps record-at-kinds.r record-at.Post
+once-sxf-record-at κs a x y e f p q = p ∙ sym q
+
+pub once-sxf-head-of : Once head-of-kinds.ps head-of-kinds.r head-of.Post
+once-sxf-head-of κs a x y e f p q = p ∙ sym q
+
+pub once-sxf-unit-of : Once unit-of-kinds.ps unit-of-kinds.r unit-of.Post
+once-sxf-unit-of κs a x y e f p q = p ∙ sym q
+
+pub once-sxf-corners-of : Once corners-of-kinds.ps corners-of-kinds.r corners-of.Post
+once-sxf-corners-of κs a x y e f p q = p ∙ sym q
+
+pub once-sxf-visibility-of : Once visibility-of-kinds.ps visibility-of-kinds.r visibility-of.Post
+once-sxf-visibility-of κs a x y e f p q = p ∙ sym q
+
+pub once-sxf-value-of : Once value-of-kinds.ps value-of-kinds.r value-of.Post
+once-sxf-value-of κs a x y e f p q = p ∙ sym q

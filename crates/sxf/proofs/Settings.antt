@@ -3,15 +3,20 @@ use Prim.Native.Nat.{ℕ}
 use mathlib.Core.List.{List}
 use lib.ListN.{length}
 use mathlib.Core.Path.{_≡_, refl, sym, ap, subst, _∙_}
-use Rattle.layout.specs.Answers.Calls.{settingOf, reading, roomy, unfolded, lent, written}
-use Rattle.layout.specs.Answers.Enums.{checkedOf, writtenOf}
+use Rattle.layout.specs.Answers.Calls.{settingOf, reading, roomy, unfolded, lent, asked, written}
+use Rattle.layout.specs.Answers.Enums.{checkedOf, foundOf, headedOf, unitIn, cornersIn, writtenOf}
 use Rattle.layout.specs.declared.Checked.the-variants as Check
 use Rattle.layout.specs.declared.Checked.{Checked}
+use Rattle.layout.specs.declared.Corners.the-variants as Corner
+use Rattle.layout.specs.declared.Found.the-variants as Find
+use Rattle.layout.specs.declared.Headed.the-variants as Heads
 use Rattle.layout.specs.declared.Refusal.{Refusal}
+use Rattle.layout.specs.declared.UnitAnswer.the-variants as Unit-of
 use Rattle.layout.specs.declared.Written.the-variants as Write
 use Rattle.layout.specs.declared.Written.{Written}
 use Rattle.layout.specs.Sheet.{Head, Table}
 use Rattle.layout.specs.Walk.{Answer}
+use Rattle.reading.proofs.Asked.{found-refused, head-refused, unit-refused, corners-refused}
 use Rattle.reading.proofs.Settings.{at-unknown}
 use Rattle.reading.proofs.Unfolding.{refused-right}
 use Rattle.reading.specs.Rooms.{rooms, theNumbers, theElements, theBytes}
@@ -26,13 +31,27 @@ use Rattle.views.specs.declared.setting.Made.the-variants.{At, Refused}
 use Rattle.views.specs.declared.setting.Made.{Made}
 use Rattle.views.specs.declared.setting.Setting.{Setting}
 
-pub check-known : (y : ℕ) (k : Setting) (s : List ℕ) (m : Made) (c : Checked) (r : SxfChecked) → m ≡ madeOf (settingOf y) → m ≡ At k
-    → c ≡ checkedOf (reading (k .year) s) → r ≡ checkedRow c → r ≡ checkedRow (checkedOf (reading y s))
-check-known y k s m c r e a h q = q ∙ ap checkedRow (h ∙ ap (λ z. checkedOf (reading z s)) (made-nine y k (sym e ∙ a) .0))
+-- where the call's contract is of the setting's year
+pub known : {A B : Type 0} (f : ℕ → A) (row : A → B) (y : ℕ) (k : Setting) (m : Made) (c : A) (r : B) → m ≡ madeOf (settingOf y) → m ≡ At k
+    → c ≡ f (k .year) → r ≡ row c → r ≡ row (f y)
+known f row y k m c r e a h q = q ∙ ap row (h ∙ ap f (made-nine y k (sym e ∙ a) .0))
 
-pub check-unknown : (y : ℕ) (q : Refusal) (s : List ℕ) (m : Made) (r : SxfChecked) → m ≡ madeOf (settingOf y) → m ≡ Refused q
-    → r ≡ checkedRow (Check.Refused q) → r ≡ checkedRow (checkedOf (reading y s))
-check-unknown y q s m r e a h = h ∙ ap checkedRow (at-unknown y y q s m refl e a)
+-- where there is no setting, its refusal is the answer
+module _ (y : ℕ) (q : Refusal) (s : List ℕ) (m : Made) (e : m ≡ madeOf (settingOf y)) (a : m ≡ Refused q) where
+  pub check-unknown : Check.Refused q ≡ checkedOf (reading y s)
+  check-unknown = at-unknown y y q s m refl e a
+
+  pub record-unknown : (n : ℕ) → Find.Refused q ≡ foundOf (asked y s n)
+  record-unknown n = found-refused y s q _ check-unknown refl n
+
+  pub head-unknown : Heads.Refused q ≡ headedOf (reading y s)
+  head-unknown = head-refused y s q _ check-unknown refl
+
+  pub unit-unknown : Unit-of.Refused q ≡ unitIn (reading y s)
+  unit-unknown = unit-refused y s q _ check-unknown refl
+
+  pub corners-unknown : Corner.Refused q ≡ cornersIn (reading y s)
+  corners-unknown = corners-refused y s q _ check-unknown refl
 
 -- what `sxf_unfold` ensures
 abbrev pub Told : ℕ → (s t₀ e₀ b₀ t₁ e₁ b₁ : List ℕ) → SxfChecked → Type 0

@@ -17,6 +17,7 @@ lines-spec =
     Inv-loop
     μ-loop
     (λ c. omega arith)
+    (λ c. omega arith)
     (λ c κs. search needs)
     (λ c. search needs)
     (λ c κs. search needs)

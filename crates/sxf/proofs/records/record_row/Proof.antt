@@ -1,0 +1,39 @@
+use native.Mathlib.Omega.{arith}
+use Prim.Native.Nat.{ℕ}
+use mir.Syntax.{w32, w64}
+use mir.Val.{Fits}
+use mathlib.Core.Path.{sym, ap}
+use Rattle.sxf.specs.Answers.{recordRow}
+use borrow.Author.Needs.{needs}
+use Rattle.sxf.proofs.records.record_row.Statement.{statement}
+use Rattle.sxf.proofs.records.record_row.Tie as tie
+
+wider : {n : ℕ} → Fits w32 n → Fits w64 n
+wider f = record { fits = omega (arith, f .fits) }
+
+returns : tie.Need-returns
+unfolding recordRow
+returns c = sym (ap recordRow (c .before .before .before .before .before .before .before .before .before .f .given .1))
+
+returns-2 : tie.Need-returns-2
+unfolding recordRow
+returns-2 c = sym (ap recordRow (c .before .before .before .f2 .given .1))
+
+pub record-row-spec : {M : Type 1} → statement M
+record-row-spec =
+    tie.close
+    (tie.spec
+    (λ c. search needs)
+    (λ c. search needs)
+    (λ c. search needs)
+    (λ c. search needs)
+    (λ c. search needs)
+    (λ c. search needs)
+    (λ c. search needs)
+    (λ c. search needs)
+    (λ c. wider (c .struct-known8 .given .1 .1 .1 .1 .1 .1 .1 .1 .1 .1 .0))
+    (λ c. search needs)
+    (λ c. search needs)
+    (λ c. search needs)
+    returns
+    returns-2)

@@ -1,0 +1,212 @@
+// The head of a sheet, its unit and its plane corners, at a year.
+ghost use mathlib.Core.Path.{_≡_};
+ghost use Rattle.layout.specs.Answers.Calls.{reading};
+ghost use Rattle.layout.specs.Answers.Enums.{headedOf, unitIn, cornersIn};
+ghost use Rattle.sxf.specs.Answers.{headRow, unitRow, unitKnown, unitAs, cornersRow, bitsRow, bitsOf};
+ghost use Rattle.sxf.specs.Doubles.{Numbers, Defined};
+use layout::CornerBits;
+use layout::Corners;
+use layout::Headed;
+use layout::PlaneCorners;
+use layout::SheetUnit;
+use layout::UnitAnswer;
+use reading::heads;
+use reading::setting::Made;
+use reading::setting::Setting;
+
+// number 0: the lengths of the four texts, and the scale. Otherwise the refusal, and the rest is 0.
+#[repr(C)]
+pub struct SxfHead {
+    pub number: u64,
+    pub place: u64,
+    pub year: u64,
+    pub date: u64,
+    pub designation: u64,
+    pub title: u64,
+    pub designation2: u64,
+    pub scale: u64,
+}
+
+fn head_row(h: Headed) -> SxfHead
+    ensures { λ r. ⌜ r ≡ headRow h ⌝ }
+{
+    match h {
+        Headed::Head(x) => SxfHead {
+            number: 0,
+            place: 0,
+            year: 0,
+            date: x.date as u64,
+            designation: x.designation as u64,
+            title: x.title as u64,
+            designation2: x.designation2 as u64,
+            scale: x.scale as u64,
+        },
+        Headed::Refused(r) => SxfHead {
+            number: r.number as u64,
+            place: r.place as u64,
+            year: r.year as u64,
+            date: 0,
+            designation: 0,
+            title: 0,
+            designation2: 0,
+            scale: 0,
+        },
+    }
+}
+
+#[no_mangle]
+pub extern "C" fn sxf_head_of(sheet: &[u8], year: u32) -> SxfHead
+    ensures { λ r. ⌜ r ≡ headRow (headedOf (reading year (now (sheet .entry)))) ⌝ }
+{
+    match Setting::new(year) {
+        Made::At(at) => head_row(heads::head_of(sheet, at)),
+        Made::Refused(r) => head_row(Headed::Refused(r)),
+    }
+}
+
+// number 0: 1 device points, 2 metres, 3 radians, 4 degrees, or 5 and the byte that names no unit. Otherwise the refusal, and the rest
+// is 0.
+#[repr(C)]
+pub struct SxfUnit {
+    pub number: u64,
+    pub place: u64,
+    pub year: u64,
+    pub unit: u64,
+    pub byte: u64,
+}
+
+fn unit_as(unit: u64, byte: u8) -> SxfUnit
+    ensures { λ r. ⌜ r ≡ unitAs unit byte ⌝ }
+{
+    SxfUnit {
+        number: 0,
+        place: 0,
+        year: 0,
+        unit,
+        byte: byte as u64,
+    }
+}
+
+fn unit_known(u: SheetUnit) -> SxfUnit
+    ensures { λ r. ⌜ r ≡ unitKnown u ⌝ }
+{
+    match u {
+        SheetUnit::DevicePoints => unit_as(1, 0),
+        SheetUnit::Metres => unit_as(2, 0),
+        SheetUnit::Radians => unit_as(3, 0),
+        SheetUnit::Degrees => unit_as(4, 0),
+        SheetUnit::Unknown(b) => unit_as(5, b),
+    }
+}
+
+fn unit_row(u: UnitAnswer) -> SxfUnit
+    ensures { λ r. ⌜ r ≡ unitRow u ⌝ }
+{
+    match u {
+        UnitAnswer::Unit(x) => unit_known(x),
+        UnitAnswer::Refused(r) => SxfUnit {
+            number: r.number as u64,
+            place: r.place as u64,
+            year: r.year as u64,
+            unit: 0,
+            byte: 0,
+        },
+    }
+}
+
+#[no_mangle]
+pub extern "C" fn sxf_unit_of(sheet: &[u8], year: u32) -> SxfUnit
+    ensures { λ r. ⌜ r ≡ unitRow (unitIn (reading year (now (sheet .entry)))) ⌝ }
+{
+    match Setting::new(year) {
+        Made::At(at) => unit_row(heads::unit_of(sheet, at)),
+        Made::Refused(r) => unit_row(UnitAnswer::Refused(r)),
+    }
+}
+
+// number 0: the bits of the eight, and the place of the first that is a NaN, or 0. Otherwise the refusal, and the rest is 0.
+#[repr(C)]
+pub struct SxfCorners {
+    pub number: u64,
+    pub place: u64,
+    pub year: u64,
+    pub nan_at: u64,
+    pub sw_x: u64,
+    pub sw_y: u64,
+    pub nw_x: u64,
+    pub nw_y: u64,
+    pub ne_x: u64,
+    pub ne_y: u64,
+    pub se_x: u64,
+    pub se_y: u64,
+}
+
+// The bits of eight doubles, which are undefined at a NaN.
+fn bits_of(d: PlaneCorners) -> CornerBits
+    requires { ⌜ Numbers d ⌝ }
+    ensures { λ r. ⌜ r ≡ bitsOf d ⌝ }
+{
+    CornerBits {
+        sw_x: f64::to_bits(d.sw_x),
+        sw_y: f64::to_bits(d.sw_y),
+        nw_x: f64::to_bits(d.nw_x),
+        nw_y: f64::to_bits(d.nw_y),
+        ne_x: f64::to_bits(d.ne_x),
+        ne_y: f64::to_bits(d.ne_y),
+        se_x: f64::to_bits(d.se_x),
+        se_y: f64::to_bits(d.se_y),
+    }
+}
+
+fn bits_row(nan_at: usize, b: CornerBits) -> SxfCorners
+    ensures { λ r. ⌜ r ≡ bitsRow «nan_at» b ⌝ }
+{
+    SxfCorners {
+        number: 0,
+        place: 0,
+        year: 0,
+        nan_at: nan_at as u64,
+        sw_x: b.sw_x,
+        sw_y: b.sw_y,
+        nw_x: b.nw_x,
+        nw_y: b.nw_y,
+        ne_x: b.ne_x,
+        ne_y: b.ne_y,
+        se_x: b.se_x,
+        se_y: b.se_y,
+    }
+}
+
+fn corners_row(c: Corners) -> SxfCorners
+    requires { ⌜ Defined c ⌝ }
+    ensures { λ r. ⌜ r ≡ cornersRow c ⌝ }
+{
+    match c {
+        Corners::Doubles(d) => bits_row(0, bits_of(d)),
+        Corners::Bits(place, b) => bits_row(place, b),
+        Corners::Refused(r) => SxfCorners {
+            number: r.number as u64,
+            place: r.place as u64,
+            year: r.year as u64,
+            nan_at: 0,
+            sw_x: 0,
+            sw_y: 0,
+            nw_x: 0,
+            nw_y: 0,
+            ne_x: 0,
+            ne_y: 0,
+            se_x: 0,
+            se_y: 0,
+        },
+    }
+}
+
+#[no_mangle]
+pub extern "C" fn sxf_corners_of(sheet: &[u8], year: u32) -> SxfCorners
+    ensures { λ r. ⌜ r ≡ cornersRow (cornersIn (reading year (now (sheet .entry)))) ⌝ }
+{
+    match Setting::new(year) {
+        Made::At(at) => corners_row(heads::corners_of(sheet, at)),
+        Made::Refused(r) => corners_row(Corners::Refused(r)),
+    }
+}

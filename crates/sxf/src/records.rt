@@ -1,0 +1,77 @@
+// A record is asked for by its number, at a year.
+ghost use mathlib.Core.Path.{_≡_};
+ghost use Rattle.layout.specs.Answers.Calls.{asked};
+ghost use Rattle.layout.specs.Answers.Enums.{foundOf};
+ghost use Rattle.sxf.specs.Answers.{recordRow};
+use layout::Found;
+use reading::records;
+use reading::setting::Made;
+use reading::setting::Setting;
+
+// number 0: the record that starts at `at`. Otherwise the refusal, and the rest is 0.
+#[repr(C)]
+pub struct SxfRecord {
+    pub number: u64,
+    pub place: u64,
+    pub year: u64,
+    pub at: u64,
+    pub total: u64,
+    pub code: u64,
+    pub in_group: u64,
+    pub group: u64,
+    pub reference: u64,
+    pub generalisation: u64,
+    pub word: u64,
+    pub parts: u64,
+    pub items: u64,
+    pub points: u64,
+}
+
+fn record_row(f: Found) -> SxfRecord
+    ensures { λ r. ⌜ r ≡ recordRow f ⌝ }
+{
+    match f {
+        Found::Record(x) => SxfRecord {
+            number: 0,
+            place: 0,
+            year: 0,
+            at: x.place as u64,
+            total: x.total as u64,
+            code: x.code as u64,
+            in_group: x.in_group as u64,
+            group: x.group as u64,
+            reference: x.reference as u64,
+            generalisation: x.generalisation as u64,
+            word: x.word as u64,
+            parts: x.parts as u64,
+            items: x.items as u64,
+            points: x.points as u64,
+        },
+        Found::Refused(r) => SxfRecord {
+            number: r.number as u64,
+            place: r.place as u64,
+            year: r.year as u64,
+            at: 0,
+            total: 0,
+            code: 0,
+            in_group: 0,
+            group: 0,
+            reference: 0,
+            generalisation: 0,
+            word: 0,
+            parts: 0,
+            items: 0,
+            points: 0,
+        },
+    }
+}
+
+#[no_mangle]
+pub extern "C" fn sxf_record_at(sheet: &[u8], year: u32, record: u64) -> SxfRecord
+    ensures { λ r. ⌜ r ≡ recordRow (foundOf (asked year (now (sheet .entry)) «record»)) ⌝ }
+{
+    match Setting::new(year) {
+        Made::At(at) => record_row(records::record_at(sheet, at, record)),
+        Made::Refused(r) => record_row(Found::Refused(r)),
+    }
+}

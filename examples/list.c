@@ -1,0 +1,216 @@
+/*
+ * list FILE COPY: lists the sheet in FILE, writes it back from its head and its record table to COPY, and compares the two.
+ *
+ * It prints the lines of the program `listing`: length, sum and count of records, then for each record its number, place, total length,
+ * code, number in group, group number, localisation, points of its first part and items; or REFUSED and the refusal. Between these stand
+ * indented lines: the unit, and for each item its code, its type and its value. FILE may be as long as the library takes, where `listing`
+ * stops at 65,536 bytes.
+ *
+ * Exit status: 0 listed and written back; 1 the sheet is refused, or COPY differs; 2 anything else, said on standard error.
+ */
+#include <errno.h>
+#include <inttypes.h>
+#include <stdio.h>
+#include <stdlib.h>
+#include <string.h>
+#include "sxf.h"
+
+enum { LISTED = 0, REFUSED = 1, FAILED = 2 };
+
+static const uint32_t YEAR = 2017;
+
+/* A sheet's bytes, and its record table unfolded. */
+typedef struct {
+    uint8_t *sheet;
+    size_t length;
+    sxf_checked sizes;
+    uint64_t *table, *elements;
+    uint8_t *bytes;
+} opened;
+
+static int failed(const char *what, const char *why)
+{
+    fprintf(stderr, "list: %s: %s\n", what, why);
+    return FAILED;
+}
+
+/* As listing says it on standard output, and in words on standard error. */
+static int refused(const char *what, uint64_t number, uint64_t place, uint64_t year)
+{
+    static const char *const names[] = {
+        "", "TOO LONG", "SHORT", "NOT SXF", "EDITION", "SUM", "TEXT", "RESERVED", "TOO NEW", "NOT CARRIED", "LENGTH", "COUNT", "SEMANTIC",
+        "LEFT OVER", "TABLE", "ROOM", "ASK",
+    };
+    printf("REFUSED %" PRIu64 " %" PRIu64 " %" PRIu64 "\n", number, place, year);
+    fprintf(stderr, "list: %s: refused: %s at %" PRIu64, what, number <= SXF_ASK ? names[number] : "?", place);
+    if (number == SXF_TOO_NEW)
+        fprintf(stderr, ", of %" PRIu64, year);
+    fputc('\n', stderr);
+    return REFUSED;
+}
+
+/* Memory for count elements of a size. It is never null on success, since a lent pointer is never null. */
+static void *room(uint64_t count, size_t size)
+{
+    return calloc(count == 0 ? 1 : (size_t)count, size);
+}
+
+/* Reads a file to its end, or to one byte over the limit, which the library then refuses. */
+static int read_file(const char *path, opened *o)
+{
+    size_t most = (size_t)SXF_LIMIT + 1;
+    FILE *f = fopen(path, "rb");
+    if (f == NULL)
+        return failed(path, strerror(errno));
+    o->sheet = room(most, 1);
+    if (o->sheet == NULL) {
+        fclose(f);
+        return failed(path, "out of memory");
+    }
+    o->length = fread(o->sheet, 1, most, f);
+    int status = ferror(f) ? failed(path, strerror(errno)) : LISTED;
+    fclose(f);
+    return status;
+}
+
+/* Checks the sheet to learn how much room its table takes, and unfolds it. */
+static int unfold(const char *path, opened *o)
+{
+    o->sizes = sxf_check(o->sheet, o->length, YEAR);
+    if (o->sizes.number != SXF_OK)
+        return refused(path, o->sizes.number, o->sizes.place, o->sizes.year);
+    o->table = room(o->sizes.numbers, sizeof *o->table);
+    o->elements = room(o->sizes.elements, sizeof *o->elements);
+    o->bytes = room(o->sizes.bytes, 1);
+    if (o->table == NULL || o->elements == NULL || o->bytes == NULL)
+        return failed(path, "out of memory");
+    sxf_checked c = sxf_unfold(o->sheet, o->length, YEAR, o->table, o->sizes.numbers, o->elements, o->sizes.elements, o->bytes, o->sizes.bytes);
+    return c.number == SXF_OK ? LISTED : refused(path, c.number, c.place, c.year);
+}
+
+/* A number of up to eight bytes, lowest first. */
+static uint64_t number_of(const uint8_t *bytes, size_t width)
+{
+    uint64_t n = 0;
+    for (size_t i = width; i > 0; i--)
+        n = n << 8 | bytes[i - 1];
+    return n;
+}
+
+static int print_unit(const char *path, const opened *o)
+{
+    static const char *const names[] = { "", "device points", "metres", "radians", "degrees" };
+    sxf_unit u = sxf_unit_of(o->sheet, o->length, YEAR);
+    if (u.number != SXF_OK)
+        return refused(path, u.number, u.place, u.year);
+    if (u.unit == SXF_UNKNOWN_UNIT)
+        printf("  unit unknown: %" PRIu64 "\n", u.byte);
+    else
+        printf("  unit %s\n", names[u.unit]);
+    return LISTED;
+}
+
+/* item has code, type, scale byte and the length of the value. A text is shown by its length, since its coding is the sheet's affair. */
+static void print_item(const uint64_t item[4], const uint8_t *value)
+{
+    uint8_t kind = (uint8_t)item[1], scale = (uint8_t)item[2];
+    printf("  item %" PRIu64 " type %u: ", item[0], kind);
+    if (kind == 8) {
+        double d = sxf_double(number_of(value, 8));
+        if (d == d)
+            printf("%.17g\n", d);
+        else
+            printf("NaN\n");
+        return;
+    }
+    sxf_value v = sxf_value_of(kind, scale, kind == 1 || kind == 2 || kind == 4 ? (uint32_t)number_of(value, kind) : 0);
+    if (v.is_number)
+        printf("%" PRId64 "e%" PRId64 "\n", v.whole, v.power);
+    else
+        printf("%" PRIu64 " bytes\n", item[3]);
+}
+
+/* The table has a record's eight numbers, two for each part and four for each item. Where a record starts and how long it is, is not in
+   it: the first starts at 452, and its length stands 4 bytes after its start. (sxf_record_at answers both, but checks the whole sheet
+   for each record.) */
+static void print_records(const opened *o)
+{
+    const uint64_t *t = o->table;
+    const uint8_t *b = o->bytes, *start = o->sheet + SXF_RECORDS_AT;
+    for (uint64_t i = 0; i < o->sizes.records; i++) {
+        const uint64_t *parts = t + 8, *items = parts + 2 * t[6], *next = items + 4 * t[7];
+        uint64_t total = number_of(start + 4, 4);
+        printf("%" PRIu64 " %td %" PRIu64 " %" PRIu64 " %" PRIu64 " %" PRIu64 " %" PRIu64 " %" PRIu64 " %" PRIu64 "\n", i, start - o->sheet, total,
+               t[0], t[1], t[2], t[3] % 16, parts[0], t[7]);
+        for (const uint64_t *part = parts; part < items; part += 2)
+            b += part[1];
+        for (const uint64_t *item = items; item < next; item += 4) {
+            print_item(item, b);
+            b += item[3];
+        }
+        start += total;
+        t = next;
+    }
+}
+
+/* Writes the sheet from what was read of it. */
+static int write_back(const char *path, const opened *o, uint8_t *out, size_t out_len, uint64_t *length)
+{
+    const uint8_t *s = o->sheet;
+    sxf_head h = sxf_head_of(s, o->length, YEAR);
+    if (h.number != SXF_OK)
+        return refused(path, h.number, h.place, h.year);
+    sxf_written w = sxf_write(YEAR, s + SXF_DATE_AT, h.date, s + SXF_DESIGNATION_AT, h.designation, (uint32_t)h.scale, s + SXF_TITLE_AT, h.title,
+                              s + SXF_REST_AT, s + SXF_DESIGNATION2_AT, h.designation2, s + SXF_FLAGS_AT, o->table, o->sizes.numbers, o->elements,
+                              o->sizes.elements, o->bytes, o->sizes.bytes, out, out_len);
+    *length = w.length;
+    return w.number == SXF_OK ? LISTED : refused(path, w.number, w.place, w.year);
+}
+
+static int copy(const char *path, const opened *o)
+{
+    uint64_t length = 0;
+    uint8_t *out = room(o->length, 1);
+    if (out == NULL)
+        return failed(path, "out of memory");
+    int status = write_back(path, o, out, o->length, &length);
+    if (status == LISTED) {
+        FILE *f = fopen(path, "wb");
+        int written = f != NULL && fwrite(out, 1, length, f) == length;
+        if (f == NULL || fclose(f) != 0 || !written)
+            status = failed(path, strerror(errno));
+        else if (length != o->length || memcmp(out, o->sheet, o->length) != 0) {
+            fprintf(stderr, "list: %s: differs from the sheet that was read\n", path);
+            status = REFUSED;
+        }
+    }
+    free(out);
+    return status;
+}
+
+int main(int argc, char **argv)
+{
+    if (argc != 3) {
+        fprintf(stderr, "usage: list FILE COPY\n");
+        return FAILED;
+    }
+    opened o = { 0 };
+    int status = read_file(argv[1], &o);
+    if (status == LISTED)
+        status = unfold(argv[1], &o);
+    if (status == LISTED) {
+        printf("SXF %zu %" PRIu64 " %" PRIu64 "\n", o.length, o.sizes.sum, o.sizes.records);
+        status = print_unit(argv[1], &o);
+    }
+    if (status == LISTED) {
+        print_records(&o);
+        status = copy(argv[2], &o);
+    }
+    free(o.sheet);
+    free(o.table);
+    free(o.elements);
+    free(o.bytes);
+    if (fflush(stdout) != 0 || ferror(stdout))
+        status = failed("standard output", "cannot be written");
+    return status;
+}

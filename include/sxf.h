@@ -1,0 +1,200 @@
+/*
+ * sxf.h: reads and writes sheets of binary SXF, edition 4.0. Link with libsxf.a (`rt staticlib sxf` makes it, for x86-64 Linux).
+ *
+ * Answers. Each call takes every value of its arguments and answers one struct by value. number is 0 (SXF_OK) on success. Else it is
+ * the number of the refusal, with its place and year, and every other field is 0. The place is a byte of the sheet, from 0, or for
+ * sxf_write's table an index of the table; the year is 0 except for SXF_TOO_NEW. (sxf_visibility has no refusal.)
+ *
+ * Years. A sheet is read or written for a year, one of 1999, 2004, 2006, 2008, 2012, 2014, 2015, 2016 and 2017: what came later is
+ * refused as SXF_TOO_NEW. Any other year is refused first of all, as SXF_ASK at place 0.
+ *
+ * What is lent. A pointer and the length after it, in elements, are one argument: so many elements can be read there or, where the
+ * pointer is not const, read and written, and nothing else writes to them before the call returns. No pointer is null, one of length 0
+ * neither: give the address of any object. A pointer to uint64_t is aligned as one.
+ *
+ * What is written. Only table, elements and bytes of sxf_unfold and out of sxf_write are written to. None of these may overlap another
+ * argument of the same call. A refusal leaves them as they were; success writes only the lengths that the answer states, from the start
+ * of each. Nothing is kept after a call, nothing is allocated, and calls in several threads do not disturb one another.
+ */
+#ifndef SXF_H
+#define SXF_H
+
+#include <stddef.h>
+#include <stdint.h>
+#include <string.h>
+
+#ifdef __cplusplus
+extern "C" {
+#endif
+
+/* The refusals. */
+enum {
+    SXF_OK = 0,
+    SXF_TOO_LONG = 1,     /* the sheet is over SXF_LIMIT bytes; place 0 */
+    SXF_SHORT = 2,        /* the sheet, or what is left of it for a record, is too short */
+    SXF_NOT_SXF = 3,      /* an identifier differs */
+    SXF_EDITION = 4,      /* a fixed length or the edition differs */
+    SXF_SUM = 5,          /* the sum differs; place 12 */
+    SXF_TEXT = 6,         /* a text field is not zero-ended and zero-filled, a text does not fit, or a closing zero is missing */
+    SXF_RESERVED = 7,     /* a value is not allowed at a flag, code or reserved field */
+    SXF_TOO_NEW = 8,      /* a feature is later than the year asked for; the answer's year is the feature's */
+    SXF_NOT_CARRIED = 9,  /* a binding vector or graphics */
+    SXF_LENGTH = 10,      /* a length is too small, does not fit or leaves bytes over */
+    SXF_COUNT = 11,       /* a count of points does not agree with the mark 65535 */
+    SXF_SEMANTIC = 12,    /* an item's type, scale or length */
+    SXF_LEFT_OVER = 13,   /* bytes after the last record */
+    SXF_TABLE = 14,       /* a record table that is no table of a sheet (sxf_write) */
+    SXF_ROOM = 15,        /* a lent output is too small; sxf_unfold: place 1 table, 2 elements, 3 bytes; sxf_write: place 0 */
+    SXF_ASK = 16          /* the year is none of the nine, or the record's number is not below the count; place 0 */
+};
+
+/* Places in a sheet. Each text starts at its place and has the length that sxf_head_of answers. The carried bytes are the rest of the
+   passport, 96 to 399, and the four of the descriptor, 444 to 447. */
+enum {
+    SXF_DATE_AT = 16,
+    SXF_DESIGNATION_AT = 28,
+    SXF_TITLE_AT = 64,
+    SXF_REST_AT = 96,
+    SXF_DESIGNATION2_AT = 408,
+    SXF_FLAGS_AT = 444,
+    SXF_RECORDS_AT = 452, /* the first record, where there is one */
+    SXF_REST_SIZE = 304,
+    SXF_FLAGS_SIZE = 4,
+    SXF_LIMIT = 16777216  /* bytes of a sheet at most */
+};
+
+/* What a sheet has: its sum, its count of records, and the lengths of the three parts of its record table. */
+typedef struct {
+    uint64_t number, place, year, sum, records, numbers, elements, bytes;
+} sxf_checked;
+
+/* Checks a sheet. */
+sxf_checked sxf_check(const uint8_t *sheet, size_t sheet_len, uint32_t year);
+
+/*
+ * Checks a sheet and unfolds its record table into three outputs, which are as long as sxf_check answers, or longer.
+ *
+ * table has, for each record, eight numbers: code, number in group, group number, reference (the bytes +20 to +22 as one number, +20
+ * lowest: its low four bits are the localisation), generalisation, the word at +24, parts, items; then for each part two: points, length
+ * of its text; then for each item four: code, type, scale byte, length of its value. elements has the elements of all points as stored
+ * bits: sxf_double makes a double of eight bytes' bits. bytes has, for each record, the texts of its parts without their closing zero, then
+ * the values of its items with theirs.
+ */
+sxf_checked sxf_unfold(const uint8_t *sheet, size_t sheet_len, uint32_t year,
+                       uint64_t *table, size_t table_len,
+                       uint64_t *elements, size_t elements_len,
+                       uint8_t *bytes, size_t bytes_len);
+
+/* A record: where it starts (at), its total length, the eight numbers of its row in the table, and the points of its first part. */
+typedef struct {
+    uint64_t number, place, year, at, total, code, in_group, group, reference, generalisation, word, parts, items, points;
+} sxf_record;
+
+/* The record of a number, from 0. After the sheet's own refusals a number that is not below the count of records is SXF_ASK. The whole
+   sheet is checked at each call: to go through all records, unfold the sheet once. */
+sxf_record sxf_record_at(const uint8_t *sheet, size_t sheet_len, uint32_t year, uint64_t record);
+
+/* The head as sxf_write takes it: the lengths of the four texts, and the scale's denominator. */
+typedef struct {
+    uint64_t number, place, year, date, designation, title, designation2, scale;
+} sxf_head;
+
+sxf_head sxf_head_of(const uint8_t *sheet, size_t sheet_len, uint32_t year);
+
+/* Units of coordinates. */
+enum {
+    SXF_DEVICE_POINTS = 1,
+    SXF_METRES = 2,
+    SXF_RADIANS = 3,
+    SXF_DEGREES = 4,
+    SXF_UNKNOWN_UNIT = 5
+};
+
+/* The unit of a sheet's coordinates; byte is the passport's byte at 236 where it names no unit (SXF_UNKNOWN_UNIT), else 0. */
+typedef struct {
+    uint64_t number, place, year, unit, byte;
+} sxf_unit;
+
+sxf_unit sxf_unit_of(const uint8_t *sheet, size_t sheet_len, uint32_t year);
+
+/* The eight plane corners as the bits stored, for sxf_double: X and Y of the south-west, north-west, north-east and south-east one.
+   nan_at is the place in the sheet of the first that is a NaN, or 0 if all are numbers. */
+typedef struct {
+    uint64_t number, place, year, nan_at, sw_x, sw_y, nw_x, nw_y, ne_x, ne_y, se_x, se_y;
+} sxf_corners;
+
+sxf_corners sxf_corners_of(const uint8_t *sheet, size_t sheet_len, uint32_t year);
+
+/* The double of stored bits. */
+static inline double sxf_double(uint64_t bits)
+{
+    double d;
+    memcpy(&d, &bits, sizeof d);
+    return d;
+}
+
+/* The scales between which a record is shown, as denominators. set 0: unset, and both are 0. */
+typedef struct {
+    uint64_t set, lower, upper;
+} sxf_visibility;
+
+/* flags is the sheet's byte at 96, byte a record's generalisation. */
+sxf_visibility sxf_visibility_of(uint8_t flags, uint8_t byte);
+
+/* whole times ten to the power. is_number 0: the type has no such number (or it is refused), and both are 0. */
+typedef struct {
+    uint64_t number, place, year, is_number;
+    int64_t whole, power;
+} sxf_value;
+
+/* The number of a semantic item: kind is its type, scale its scale byte, bits its value, lowest byte first. Types 1, 2 and 4 have such a
+   number, of so many low bytes of bits. Scale 0x80 is refused for these, SXF_SEMANTIC at place 3 of the item. */
+sxf_value sxf_value_of(uint8_t kind, uint8_t scale, uint32_t bits);
+
+/* How many bytes of out are the sheet. */
+typedef struct {
+    uint64_t number, place, year, length;
+} sxf_written;
+
+/*
+ * Writes a sheet from its head and its record table, as sxf_head_of and sxf_unfold answer them. Texts are without a zero: the date is
+ * at most 11 bytes, the others 31. rest has the 304 bytes from 96 on, flags the four from 444 on. The sum, the counts and all lengths
+ * are computed. SXF_LIMIT bytes of out are always enough.
+ */
+sxf_written sxf_write(uint32_t year,
+                      const uint8_t *date, size_t date_len,
+                      const uint8_t *designation, size_t designation_len,
+                      uint32_t scale,
+                      const uint8_t *title, size_t title_len,
+                      const uint8_t rest[304],
+                      const uint8_t *designation2, size_t designation2_len,
+                      const uint8_t flags[4],
+                      const uint64_t *table, size_t table_len,
+                      const uint64_t *elements, size_t elements_len,
+                      const uint8_t *bytes, size_t bytes_len,
+                      uint8_t *out, size_t out_len);
+
+#ifdef __cplusplus
+}
+#endif
+
+/* The structs are as the library has them: no padding, and a length is 64 bits. */
+#if defined(__cplusplus) && __cplusplus >= 201103L
+#define SXF_SIZE(type, words) static_assert(sizeof(type) == 8 * (words), #type)
+#elif defined(__STDC_VERSION__) && __STDC_VERSION__ >= 201112L
+#define SXF_SIZE(type, words) _Static_assert(sizeof(type) == 8 * (words), #type)
+#else
+#define SXF_SIZE(type, words) typedef char type##_has_no_padding[sizeof(type) == 8 * (words) ? 1 : -1]
+#endif
+SXF_SIZE(sxf_checked, 8);
+SXF_SIZE(sxf_record, 14);
+SXF_SIZE(sxf_head, 8);
+SXF_SIZE(sxf_unit, 5);
+SXF_SIZE(sxf_corners, 12);
+SXF_SIZE(sxf_visibility, 3);
+SXF_SIZE(sxf_value, 6);
+SXF_SIZE(sxf_written, 4);
+SXF_SIZE(size_t, 1);
+#undef SXF_SIZE
+
+#endif
