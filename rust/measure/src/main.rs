@@ -1,10 +1,12 @@
 //! Times checking, unfolding and writing beside a plain copy of the same bytes, in the same run. Each figure is the best of many rounds,
 //! and the rounds of the four go in turn, so that a slow spell of the machine meets all of them. All memory is touched before.
-mod library;
 mod sheets;
 
 use std::hint::black_box;
 use std::time::Instant;
+use sxf::table::unfold_into;
+use sxf::writer::write_into;
+use sxf::{Head, Setting, TableRef};
 
 const ROUNDS: usize = 60;
 
@@ -23,25 +25,27 @@ fn milliseconds(work: impl FnOnce()) -> f64 {
 }
 
 fn measure(kind: &sheets::Kind, sheet: &[u8]) -> Best {
-    let sizes = library::check(sheet, 2017);
-    assert_eq!(sizes.number, 0, "the sheet is refused: {sizes:?}");
-    let mut table = vec![1u64; sizes.numbers as usize];
-    let mut elements = vec![1u64; sizes.elements as usize];
-    let mut bytes = vec![1u8; sizes.bytes as usize];
+    let at = Setting::Y2017;
+    let sizes = sxf::check(sheet, at).expect("the sheet is accepted");
+    let mut numbers = vec![1u64; sizes.numbers];
+    let mut elements = vec![1u64; sizes.elements];
+    let mut bytes = vec![1u8; sizes.bytes];
     let mut copy = vec![1u8; sheet.len()];
     let mut written = vec![1u8; sheet.len()];
-    let head = sheets::carried(sheet);
+    let (rest, flags) = sheets::carried(sheet);
+    let head = Head { rest, flags, ..Head::PLAIN };
     let mut best = Best { copy: f64::MAX, check: f64::MAX, unfold: f64::MAX, write: f64::MAX };
     for _ in 0..ROUNDS {
         best.copy = best.copy.min(milliseconds(|| black_box(&mut copy).copy_from_slice(black_box(sheet))));
         best.check = best.check.min(milliseconds(|| {
-            black_box(library::check(black_box(sheet), 2017));
+            let _ = black_box(sxf::check(black_box(sheet), at));
         }));
         best.unfold = best.unfold.min(milliseconds(|| {
-            black_box(library::unfold(black_box(sheet), 2017, &mut table, &mut elements, &mut bytes));
+            let _ = black_box(unfold_into(black_box(sheet), at, &mut numbers, &mut elements, &mut bytes));
         }));
         best.write = best.write.min(milliseconds(|| {
-            black_box(library::write(2017, &head, black_box(&table), &elements, &bytes, &mut written));
+            let table = TableRef { numbers: &numbers, elements: &elements, bytes: &bytes };
+            let _ = black_box(write_into(&head, black_box(table), at, &mut written));
         }));
     }
     assert!(sheets::last_agrees(kind, sheet, &elements), "the last element unfolded is not the last one stored");

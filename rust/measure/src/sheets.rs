@@ -69,9 +69,7 @@ pub fn last_agrees(kind: &Kind, sheet: &[u8], elements: &[u64]) -> bool {
     elements.last().is_some_and(|last| sheet.ends_with(&last.to_le_bytes()[..kind.element]))
 }
 
-/// The carried bytes of a sheet, for writing it back.
-pub fn carried(sheet: &[u8]) -> crate::library::Carried<'_> {
-    let rest = sheet[96..400].try_into().expect("304 bytes");
-    let flags = sheet[444..448].try_into().expect("four bytes");
-    crate::library::Carried { rest, flags }
+/// The carried bytes of a sheet, for writing it back: the 304 from 96 on and the four at 444.
+pub fn carried(sheet: &[u8]) -> (&[u8; 304], &[u8; 4]) {
+    (sheet[96..400].try_into().expect("304 bytes"), sheet[444..448].try_into().expect("four bytes"))
 }
