@@ -8,6 +8,7 @@ use layout::CornerBits;
 use layout::Corners;
 use layout::Headed;
 use layout::PlaneCorners;
+use layout::Refusal;
 use layout::SheetUnit;
 use layout::UnitAnswer;
 use reading::heads;
@@ -177,6 +178,25 @@ fn bits_row(nan_at: usize, b: CornerBits) -> SxfCorners
     }
 }
 
+fn no_corners(r: Refusal) -> SxfCorners
+    ensures { λ c. ⌜ c ≡ cornersRow (Corners.Refused r) ⌝ }
+{
+    SxfCorners {
+        number: r.number as u64,
+        place: r.place as u64,
+        year: r.year as u64,
+        nan_at: 0,
+        sw_x: 0,
+        sw_y: 0,
+        nw_x: 0,
+        nw_y: 0,
+        ne_x: 0,
+        ne_y: 0,
+        se_x: 0,
+        se_y: 0,
+    }
+}
+
 fn corners_row(c: Corners) -> SxfCorners
     requires { ⌜ Defined c ⌝ }
     ensures { λ r. ⌜ r ≡ cornersRow c ⌝ }
@@ -184,20 +204,7 @@ fn corners_row(c: Corners) -> SxfCorners
     match c {
         Corners::Doubles(d) => bits_row(0, bits_of(d)),
         Corners::Bits(place, b) => bits_row(place, b),
-        Corners::Refused(r) => SxfCorners {
-            number: r.number as u64,
-            place: r.place as u64,
-            year: r.year as u64,
-            nan_at: 0,
-            sw_x: 0,
-            sw_y: 0,
-            nw_x: 0,
-            nw_y: 0,
-            ne_x: 0,
-            ne_y: 0,
-            se_x: 0,
-            se_y: 0,
-        },
+        Corners::Refused(r) => no_corners(r),
     }
 }
 
@@ -207,6 +214,6 @@ pub extern "C" fn sxf_corners_of(sheet: &[u8], year: u32) -> SxfCorners
 {
     match Setting::new(year) {
         Made::At(at) => corners_row(heads::corners_of(sheet, at)),
-        Made::Refused(r) => corners_row(Corners::Refused(r)),
+        Made::Refused(r) => no_corners(r),
     }
 }

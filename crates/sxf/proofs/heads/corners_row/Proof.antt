@@ -29,8 +29,7 @@ unfolding cornersRow
 returns-2 c = c .bits-row2 .ensures ∙ sym (ap cornersRow (c .before .before .c2 .given .1))
 
 returns-3 : tie.Need-returns-3
-unfolding cornersRow
-returns-3 c = sym (ap cornersRow (c .before .before .before .c3 .given .1))
+returns-3 c = c .no-corners .ensures ∙ sym (ap cornersRow (c .before .before .c3 .given .1))
 
 pub corners-row-spec : {M : Type 1} → statement M
 corners-row-spec =
@@ -42,8 +41,7 @@ corners-row-spec =
     (λ c. search needs)
     (λ c κs. search needs)
     (λ c. search needs)
-    (λ c. search needs)
-    (λ c. search needs)
+    (λ c κs. search needs)
     returns
     returns-2
     returns-3)

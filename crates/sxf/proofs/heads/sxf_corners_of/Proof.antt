@@ -13,15 +13,11 @@ use Rattle.sxf.proofs.heads.sxf_corners_of.Tie as tie
 corners-row-requires : tie.Need-corners-row-requires
 corners-row-requires c κs = subst Defined (sym (c .corners-of .ensures)) (sheet-defined _)
 
-corners-row-requires-2 : tie.Need-corners-row-requires-2
-unfolding Defined
-corners-row-requires-2 c κs = tt
-
 returns : tie.Need-returns
 returns c = known (λ z. cornersIn (reading z (now (c .before .before .before .before .before .before .before .args .sheet)))) cornersRow (c .before .before .before .before .before .before .before .args .year) _ _ _ _ (c .before .before .before .before .before .new .ensures .0) (c .before .before .before .at .given .1) (c .before .corners-of .ensures) (c .corners-row .ensures)
 
 returns-2 : tie.Need-returns-2
-returns-2 c = c .corners-row2 .ensures ∙ ap cornersRow (corners-unknown (c .before .before .before .before .before .before .args .year) _ (now (c .before .before .before .before .before .before .args .sheet)) _ (c .before .before .before .before .new .ensures .0) (c .before .before .r .given .1))
+returns-2 c = c .no-corners .ensures ∙ ap cornersRow (corners-unknown (c .before .before .before .before .before .before .args .year) _ (now (c .before .before .before .before .before .before .args .sheet)) _ (c .before .before .before .before .new .ensures .0) (c .before .before .r .given .1))
 
 pub sxf-corners-of-spec : {M : Type 1} → statement M
 sxf-corners-of-spec =
@@ -32,6 +28,6 @@ sxf-corners-of-spec =
     (λ c κs. search needs)
     corners-row-requires
     (λ c. search needs)
-    corners-row-requires-2
+    (λ c κs. search needs)
     returns
     returns-2)
