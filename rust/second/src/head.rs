@@ -1,0 +1,193 @@
+//! What stands before the records: passport and descriptor.
+
+use crate::bytes::{bytes_at, put, put_u32, u32_at};
+use crate::refusal::{require, Refusal};
+use crate::years::{self, Setting};
+use crate::LIMIT;
+
+/// Bytes of passport and descriptor; the first record starts here.
+pub(crate) const HEAD_BYTES: usize = 452;
+
+const IDENTIFIER: u32 = 0x0046_5853;
+const PASSPORT_LENGTH: u32 = 400;
+const EDITION: u32 = 0x0004_0000;
+const DESCRIPTOR_IDENTIFIER: u32 = 0x0054_4144;
+const DESCRIPTOR_LENGTH: u32 = 52;
+
+/// Where a text field starts, and its length.
+const DATE: (usize, usize) = (16, 12);
+const DESIGNATION: (usize, usize) = (28, 32);
+const TITLE: (usize, usize) = (64, 32);
+const DESIGNATION_2: (usize, usize) = (408, 32);
+
+const SUM: usize = 12;
+const SCALE: usize = 60;
+const REST: usize = 96;
+const COUNT: usize = 440;
+const FLAGS: usize = 444;
+const DESCRIPTOR_RESERVED: usize = 448;
+
+/// What a sheet says before its records, save for fixed fields, sum and
+/// count. Texts are without their zeros.
+#[derive(Clone, PartialEq, Eq, Debug)]
+pub struct Head {
+    /// The text at 16.
+    pub date: Vec<u8>,
+    /// The text at 28.
+    pub designation: Vec<u8>,
+    /// The scale denominator at 60.
+    pub scale: u32,
+    /// The text at 64.
+    pub title: Vec<u8>,
+    /// The bytes 96 to 399.
+    pub rest: [u8; 304],
+    /// The descriptor's text at 408; it need not agree with the first.
+    pub designation2: Vec<u8>,
+    /// The bytes 444 to 447.
+    pub flags: [u8; 4],
+}
+
+impl Head {
+    /// The writer's checks, by place in the sheet.
+    pub(crate) fn check(&self, setting: Setting) -> Result<(), Refusal> {
+        check_text(&self.date, DATE)?;
+        check_text(&self.designation, DESIGNATION)?;
+        check_text(&self.title, TITLE)?;
+        check_rest(&self.rest, setting)?;
+        check_text(&self.designation2, DESIGNATION_2)?;
+        check_flags(&self.flags, setting)
+    }
+
+    /// Fills the first 452 bytes of a sheet, all zero so far, whose records
+    /// are in place, and then the sum over the whole.
+    pub(crate) fn store(&self, records: u32, sheet: &mut [u8]) {
+        put_u32(sheet, 0, IDENTIFIER);
+        put_u32(sheet, 4, PASSPORT_LENGTH);
+        put_u32(sheet, 8, EDITION);
+        put(sheet, DATE.0, &self.date);
+        put(sheet, DESIGNATION.0, &self.designation);
+        put_u32(sheet, SCALE, self.scale);
+        put(sheet, TITLE.0, &self.title);
+        put(sheet, REST, &self.rest);
+        put_u32(sheet, 400, DESCRIPTOR_IDENTIFIER);
+        put_u32(sheet, 404, DESCRIPTOR_LENGTH);
+        put(sheet, DESIGNATION_2.0, &self.designation2);
+        put_u32(sheet, COUNT, records);
+        put(sheet, FLAGS, &self.flags);
+        put_u32(sheet, SUM, sum(sheet));
+    }
+}
+
+/// What stands in a sheet's first 452 bytes.
+pub(crate) struct Opening {
+    /// The stored sum, which is the right one.
+    pub(crate) sum: u32,
+    /// The record count at 440.
+    pub(crate) records: u32,
+    /// All that the writer takes again.
+    pub(crate) head: Head,
+}
+
+/// Reads what stands before the records: TOO LONG, 452 bytes, then passport
+/// and descriptor by rising place.
+pub(crate) fn read_head(sheet: &[u8], setting: Setting) -> Result<Opening, Refusal> {
+    require(sheet.len() <= LIMIT, Refusal::TOO_LONG, 0)?;
+    require(sheet.len() >= HEAD_BYTES, Refusal::SHORT, 0)?;
+    fixed(sheet, 0, IDENTIFIER, Refusal::NOT_SXF)?;
+    fixed(sheet, 4, PASSPORT_LENGTH, Refusal::EDITION)?;
+    fixed(sheet, 8, EDITION, Refusal::EDITION)?;
+    let sum = sum(sheet);
+    fixed(sheet, SUM, sum, Refusal::SUM)?;
+    let date = read_text(sheet, DATE)?;
+    let designation = read_text(sheet, DESIGNATION)?;
+    let title = read_text(sheet, TITLE)?;
+    let rest = bytes_at::<304>(sheet, REST);
+    check_rest(&rest, setting)?;
+    fixed(sheet, 400, DESCRIPTOR_IDENTIFIER, Refusal::NOT_SXF)?;
+    fixed(sheet, 404, DESCRIPTOR_LENGTH, Refusal::EDITION)?;
+    let designation2 = read_text(sheet, DESIGNATION_2)?;
+    let flags = bytes_at::<4>(sheet, FLAGS);
+    check_flags(&flags, setting)?;
+    fixed(sheet, DESCRIPTOR_RESERVED, 0, Refusal::RESERVED)?;
+    Ok(Opening {
+        sum,
+        records: u32_at(sheet, COUNT),
+        head: Head {
+            date,
+            designation,
+            scale: u32_at(sheet, SCALE),
+            title,
+            rest,
+            designation2,
+            flags,
+        },
+    })
+}
+
+/// The bytes from +96 on: four bytes of flags, then EPSG and the two offsets;
+/// the others are carried as stored.
+fn check_rest(rest: &[u8; 304], setting: Setting) -> Result<(), Refusal> {
+    let [flags, coding, accuracy, sorting] = [rest[0], rest[1], rest[2], rest[3]];
+    let bit_2_zero = flags & 0x04 == 0;
+    require(state_allowed(flags) && bit_2_zero, Refusal::RESERVED, 96)?;
+    require(coding <= 2, Refusal::RESERVED, 97)?;
+    require(accuracy <= 3, Refusal::RESERVED, 98)?;
+    setting.admit(accuracy != 0, years::ACCURACY, 98)?;
+    require(sorting & 0xFE == 0, Refusal::RESERVED, 99)?;
+    setting.admit(sorting & 0x01 != 0, years::SPECIAL_SORTING, 99)?;
+    setting.admit(u32_at(rest, 100 - REST) != 0, years::EPSG, 100)?;
+    let north = bytes_at::<8>(rest, 384 - REST);
+    setting.admit(north != [0; 8], years::OFFSETS, 384)?;
+    let east = bytes_at::<8>(rest, 392 - REST);
+    setting.admit(east != [0; 8], years::OFFSETS, 392)
+}
+
+/// The four bytes at 444.
+fn check_flags(flags: &[u8; 4], setting: Setting) -> Result<(), Refusal> {
+    let [state, coding, secrecy, automatic] = *flags;
+    require(state_allowed(state), Refusal::RESERVED, 444)?;
+    require(coding <= 2, Refusal::RESERVED, 445)?;
+    require(secrecy <= 5, Refusal::RESERVED, 446)?;
+    require(automatic & 0xFC == 0, Refusal::RESERVED, 447)?;
+    setting.admit(automatic & 0x01 != 0, years::AUTOMATIC_GUID, 447)?;
+    setting.admit(automatic & 0x02 != 0, years::EDIT_DATE, 447)
+}
+
+/// What +96 and 444 have in common: bits 0-1 are 3, bits 3-4 are 0 or 3,
+/// bits 5-6 are zero.
+fn state_allowed(flags: u8) -> bool {
+    flags & 0x03 == 0x03 && matches!(flags & 0x18, 0x00 | 0x18) && flags & 0x60 == 0
+}
+
+/// The sum of all bytes, those at 12 counted as zero. A sheet within the
+/// limit has a sum below 2^32.
+fn sum(sheet: &[u8]) -> u32 {
+    let of = |bytes: &[u8]| {
+        bytes
+            .iter()
+            .fold(0u32, |sum, &byte| sum.wrapping_add(u32::from(byte)))
+    };
+    of(&sheet[..SUM]).wrapping_add(of(&sheet[SUM + 4..]))
+}
+
+/// The text of a field that holds it, then at least one zero, and zeros to
+/// its end.
+fn read_text(sheet: &[u8], (place, length): (usize, usize)) -> Result<Vec<u8>, Refusal> {
+    let field = &sheet[place..place + length];
+    let text_length = field.iter().take_while(|&&byte| byte != 0).count();
+    let (text, zeros) = field.split_at(text_length);
+    let zero_ended = !zeros.is_empty() && zeros.iter().all(|&byte| byte == 0);
+    require(zero_ended, Refusal::TEXT, place as u64)?;
+    Ok(text.to_vec())
+}
+
+/// Whether a text may go into its field: no zero in it, and room for one
+/// after it.
+fn check_text(text: &[u8], (place, length): (usize, usize)) -> Result<(), Refusal> {
+    let allowed = text.len() < length && !text.contains(&0);
+    require(allowed, Refusal::TEXT, place as u64)
+}
+
+fn fixed(sheet: &[u8], place: usize, value: u32, number: u64) -> Result<(), Refusal> {
+    require(u32_at(sheet, place) == value, number, place as u64)
+}

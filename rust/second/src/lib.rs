@@ -1,0 +1,45 @@
+//! A second reader and writer of SXF 4.0 sheets.
+//!
+//! It is here to be held against the proved library: both are given the same
+//! sheets and tables, and every answer and every refusal must agree. It is
+//! also what the proved library's speed is measured against. For that it is
+//! written from document 01 alone (and the tables of document 000 that 01
+//! points to), and it shares no code and no table with the proved library.
+//!
+//! Nobody should link it, save the programs that compare and time the two: it
+//! has tests and no proof, and it follows the definition as one reader
+//! understood it.
+//!
+//! The words are document 01's: passport, descriptor, record, part, item,
+//! place, refusal. Each refusal is checked in document 01's order, and the
+//! first that applies is the answer; no input makes a call panic.
+
+#![forbid(unsafe_code)]
+#![warn(missing_docs)]
+
+mod bytes;
+mod head;
+mod item;
+mod meanings;
+mod record;
+mod reference;
+mod refusal;
+mod shape;
+mod sheet;
+mod table;
+mod writer;
+mod years;
+
+#[cfg(test)]
+mod tests;
+
+pub use head::Head;
+pub use meanings::{corners, unit, value, visibility, Unit, Value};
+pub use record::Record;
+pub use refusal::Refusal;
+pub use sheet::{read, record_at, Reading};
+pub use table::Table;
+pub use writer::write;
+
+/// The most bytes a sheet may have ("What the base holds").
+pub(crate) const LIMIT: usize = 16_777_216;
