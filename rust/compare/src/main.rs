@@ -1,0 +1,41 @@
+//! Holds the archive against GDAL's SXF driver; `rust/compare/run` builds it and gives it its arguments.
+mod agree;
+mod bases;
+mod child;
+mod damage;
+mod differ;
+mod gdal;
+mod library;
+mod random;
+mod refuse;
+mod scratch;
+mod sheets;
+mod texts;
+mod timing;
+mod values;
+
+use std::process::exit;
+
+fn main() {
+    let arguments: Vec<String> = std::env::args().skip(1).collect();
+    let arguments: Vec<&str> = arguments.iter().map(String::as_str).collect();
+    if let ["ours", path] = arguments[..] {
+        return child::ours(path);
+    }
+    let Some(gdal) = gdal::Gdal::load() else {
+        println!("GDAL is not installed: there is nothing to compare with.");
+        exit(2);
+    };
+    match arguments[..] {
+        ["agree"] => agree::run(&gdal),
+        ["differ"] => differ::run(),
+        ["refuse"] => refuse::run(),
+        ["damage"] => damage::run(),
+        ["time"] => timing::run(&gdal),
+        ["gdal", path] => child::gdal(&gdal, path),
+        _ => {
+            eprintln!("compare agree | differ | refuse | damage | time");
+            exit(1);
+        }
+    }
+}
