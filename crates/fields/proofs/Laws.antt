@@ -31,6 +31,10 @@ number-join m n s p = number-add m n (drop p s) ∙ simp drop-drop
 pub total-step : (s : List ℕ) (i : ℕ) → i < length s → total (drop i s) ≡ getD s i 0 + total (drop (i + 1) s)
 total-step s i h = simp (add-one, drop-cons s i 0 h)
 
+-- the same, i bytes after a place
+pub total-next : (s : List ℕ) (at i : ℕ) → at + i < length s → total (drop (at + i) s) ≡ getD s (at + i) 0 + total (drop (at + (i + 1)) s)
+total-next s at i h = rw (← add-assoc at i 1) (total-step s (at + i) h)
+
 pub total-end : (s : List ℕ) (i : ℕ) → length s ≤ i → total (drop i s) ≡ 0
 total-end s i h = simp (drop-of-length-le s h)
 

@@ -1,33 +1,36 @@
 use Prim.Native.Nat.{_+_, _-_, _*_, _≤_}
-use mathlib.Core.Path.{_≡_}
+use mathlib.Core.Path.{_≡_, ap}
 use native.Mathlib.Omega.{arith}
-use lib.ListN.{length, drop}
+use lib.ListN.{length, drop, length-drop}
 use denote.Ref.{now}
 use Rattle.layout.specs.Bytes.{total}
-use Rattle.fields.proofs.Laws.{total-step, total-end}
 use Rattle.fields.proofs.sums.sum_of.Statement.{statement}
 use Rattle.fields.proofs.sums.sum_of.Tie as tie
 
 abbrev Inv-loop : tie.InvT-loop
-Inv-loop s sum₀ i₀ i-end sum i = (i ≤ length s) × (sum + total (drop i s) ≡ total s) × (sum ≤ 255 * i)
+Inv-loop s sum₀ at₀ sum at = (at ≤ length s) × (sum + total (drop at s) ≡ total s) × (sum ≤ 255 * at)
 
 abbrev μ-loop : tie.MeasureT-loop
-μ-loop s sum₀ i₀ i-end sum i = length s - i
+μ-loop s sum₀ at₀ sum at = length s - at
 
-cast-sum : tie.Need-cast-sum Inv-loop μ-loop
-cast-sum c = omega (arith, c .shared-slice-known .given (c .before .before .loop .i))
+block-requires : tie.Need-block-requires Inv-loop μ-loop
+block-requires c κs = omega arith
 
-add-sum : tie.Need-add-sum Inv-loop μ-loop
-add-sum c = omega (arith, c .shared-slice-known .given (c .before .before .loop .i))
+few-requires : tie.Need-few-requires Inv-loop μ-loop
+few-requires c κs =
+    rw (c .rest .ensures) (omega (arith, length-drop (c .before .before .loop .at) (now (c .before .before .before .before .args .s))))
 
-loop-again : tie.Need-loop-again Inv-loop μ-loop
-loop-again c =
-    let s = now (c .before .before .before .args .s) in
-    let i = c .before .before .loop .i in
-    omega (arith, c .shared-slice-known .given i, total-step s i (omega arith))
+add-result : tie.Need-add-result Inv-loop μ-loop
+add-result c =
+    let s = now (c .before .before .before .before .before .args .s) in
+    let at = c .before .before .before .loop .at in
+    omega (arith, ap length (c .before .rest .ensures), length-drop at s)
 
 returns : tie.Need-returns Inv-loop μ-loop
-returns c = omega (arith, total-end (now (c .before .before .args .s)) (c .before .loop .i) (omega arith))
+returns c =
+    let s = now (c .before .before .before .before .before .args .s) in
+    let at = c .before .before .before .loop .at in
+    omega (arith, ap length (c .before .rest .ensures), ap total (c .before .rest .ensures), length-drop at s)
 
 pub sum-of-spec : {M : Type 1} → statement M
 sum-of-spec =
@@ -37,9 +40,13 @@ sum-of-spec =
     μ-loop
     (λ c. omega arith)
     (λ c. omega arith)
-    cast-sum
-    add-sum
+    block-requires
     (λ c. omega arith)
     (λ c. omega arith)
-    loop-again
+    (λ c. omega arith)
+    (λ c. omega arith)
+    (λ c. omega arith)
+    (λ c κs. omega arith)
+    few-requires
+    add-result
     returns)

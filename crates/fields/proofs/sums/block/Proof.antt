@@ -1,0 +1,59 @@
+use Prim.Native.Nat.{_+_, _-_, _*_, _≤_}
+use mathlib.Core.Path.{_≡_, ap}
+use native.Mathlib.Nat.{add-zero, zero-add}
+use native.Mathlib.Omega.{arith}
+use lib.ListN.{length, drop}
+use denote.Ref.{now}
+use Rattle.layout.specs.Bytes.{total}
+use Rattle.fields.proofs.Laws.{total-next}
+use Rattle.fields.proofs.sums.block.Statement.{statement}
+use Rattle.fields.proofs.sums.block.Tie as tie
+
+abbrev Inv-loop : tie.InvT-loop
+Inv-loop s at sum₀ i₀ sum i = (i ≤ 256) × (sum + total (drop (at + i) s) ≡ total (drop at s)) × (sum ≤ 255 * i)
+
+abbrev μ-loop : tie.MeasureT-loop
+μ-loop s at sum₀ i₀ sum i = 256 - i
+
+loop-holds : tie.Need-loop-holds Inv-loop μ-loop
+loop-holds c = (omega arith, simp (add-zero, zero-add), omega arith)
+
+add-sum : tie.Need-add-sum Inv-loop μ-loop
+add-sum c = omega arith
+
+cast-sum : tie.Need-cast-sum Inv-loop μ-loop
+cast-sum c = omega (arith, c .shared-slice-known .given (c .before .before .before .args .at + c .before .before .loop .i))
+
+add-sum-2 : tie.Need-add-sum-2 Inv-loop μ-loop
+add-sum-2 c = omega (arith, c .shared-slice-known .given (c .before .before .before .args .at + c .before .before .loop .i))
+
+loop-again : tie.Need-loop-again Inv-loop μ-loop
+loop-again c =
+    let s = now (c .before .before .before .args .s) in
+    let at = c .before .before .before .args .at in
+    let i = c .before .before .loop .i in
+    omega (arith, c .shared-slice-known .given (at + i), total-next s at i (omega arith))
+
+returns : tie.Need-returns Inv-loop μ-loop
+returns c =
+    let s = now (c .before .before .args .s) in
+    let at = c .before .before .args .at in
+    let i = c .before .loop .i in
+    let done : i ≡ 256 = omega arith in
+    omega (arith, ap (λ n. total (drop (at + n) s)) done)
+
+pub block-spec : {M : Type 1} → statement M
+block-spec =
+    tie.close
+    (tie.spec
+    Inv-loop
+    μ-loop
+    loop-holds
+    add-sum
+    (λ c. omega arith)
+    cast-sum
+    add-sum-2
+    (λ c. omega arith)
+    (λ c. omega arith)
+    loop-again
+    returns)
