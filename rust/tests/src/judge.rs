@@ -1,0 +1,140 @@
+//! Asks the archive and `second` the same, and compares all of both answers
+//! and all memory that was lent.
+
+mod meanings;
+mod reading;
+mod writing;
+
+use crate::features;
+use crate::memory::Memory;
+use crate::tally::{Call, Reason, Tally};
+use second::{Head, Refusal, Table};
+use std::fmt::Debug;
+
+/// One case's comparisons, and the memory that is lent for them.
+#[derive(Default)]
+pub struct Judge {
+    /// What this case has met.
+    pub met: Tally,
+    /// How often two answers were compared.
+    pub comparisons: u64,
+    /// Whether what the case is about was accepted.
+    pub accepted: bool,
+    /// How the case was made.
+    pub notes: Vec<String>,
+    /// Where the two do not agree.
+    pub disagreements: Vec<String>,
+    /// Whether to note what is lent in full.
+    tells: bool,
+    sheet: Memory<u8>,
+    table: Memory<u64>,
+    elements: Memory<u64>,
+    bytes: Memory<u8>,
+    out: Memory<u8>,
+}
+
+/// How many disagreements of one case are told.
+const MOST_TOLD: usize = 6;
+
+/// How much is asked of a sheet at one year.
+#[derive(Clone, Copy, PartialEq, Eq)]
+pub enum Care {
+    /// Every call, with all rooms and many record numbers.
+    Whole,
+    /// Every call, once or twice.
+    Once,
+    /// Only whether it is accepted.
+    Check,
+}
+
+fn refusal_of<T>(result: &Result<T, Refusal>) -> Refusal {
+    result.as_ref().err().copied().unwrap_or(Refusal { number: 0, place: 0, year: 0 })
+}
+
+impl Judge {
+    /// Forgets the last case. What is lent depends on the salt.
+    pub fn start(&mut self, salt: u64) {
+        self.sheet.reset(salt);
+        self.table.reset(salt);
+        self.elements.reset(salt);
+        self.bytes.reset(salt);
+        self.out.reset(salt);
+        self.met = Tally::default();
+        self.comparisons = 0;
+        self.accepted = false;
+        self.notes.clear();
+        self.disagreements.clear();
+    }
+
+    /// Notes what is lent in full from here on.
+    pub fn tell_all(&mut self) {
+        self.tells = true;
+    }
+
+    /// Says how the case was made.
+    pub fn note(&mut self, note: String) {
+        self.notes.push(note);
+    }
+
+    /// Says under what the disagreements after the first `before` came up.
+    pub fn context(&mut self, before: usize, context: impl FnOnce() -> String) {
+        if self.disagreements.len() > before {
+            let context = context();
+            for disagreement in &mut self.disagreements[before..] {
+                disagreement.push_str("; ");
+                disagreement.push_str(&context);
+            }
+        }
+    }
+
+    fn disagree(&mut self, disagreement: impl FnOnce() -> String) {
+        if self.disagreements.len() < MOST_TOLD {
+            self.disagreements.push(disagreement());
+        }
+    }
+
+    fn meet(&mut self, call: Call, number: u64) {
+        // A number that is no refusal is a disagreement, told elsewhere.
+        if let Some(met) = self.met.answers[call as usize].get_mut(number as usize) {
+            *met = 1;
+        }
+    }
+
+    fn meet_features(&mut self, head: &Head, table: &Table) {
+        let has = features::of(head, table);
+        for (feature, met) in self.met.features.iter_mut().enumerate() {
+            *met |= (has >> feature & 1) as u64;
+        }
+    }
+
+    fn meet_reason(&mut self, reason: Reason) {
+        self.met.reasons.insert(reason, 1);
+    }
+
+    /// Compares two answers.
+    pub fn same<T: PartialEq + Debug>(&mut self, asked: impl FnOnce() -> String, archive: T, second: T) {
+        self.comparisons += 1;
+        if archive != second {
+            self.disagree(|| format!("{}: the archive says {archive:?}, second {second:?}", asked()));
+        }
+    }
+
+    fn whole(&mut self, asked: impl FnOnce() -> String, name: &str, memory: Result<(), i64>) {
+        self.comparisons += 1;
+        if let Err(index) = memory {
+            self.disagree(|| format!("{}: the {name} are not what they should be at {index}", asked()));
+        }
+    }
+}
+
+/// What is larger than this is not told in full.
+const TOLD: usize = 100_000;
+
+/// Bytes as a person can take them into a file.
+fn hex(bytes: &[u8]) -> String {
+    bytes.iter().map(|byte| format!("{byte:02x}")).collect()
+}
+
+fn table_sizes(table: &Table) -> [usize; 3] {
+    [table.numbers.len(), table.elements.len(), table.bytes.len()]
+}

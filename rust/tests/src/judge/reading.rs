@@ -1,0 +1,235 @@
+//! Everything that is asked of a sheet.
+
+use super::{hex, refusal_of, table_sizes, Care, Judge, TOLD};
+use crate::numbers::Numbers;
+use crate::raw;
+use crate::reasons;
+use crate::tally::{Call, Reason, Way, Where};
+use second::{Reading, Refusal, Table};
+
+impl Judge {
+    /// Reads a sheet at several years; the first says whether the case is
+    /// accepted. The sheet lies between guards, and is found whole after.
+    pub fn reads(&mut self, sheet: &[u8], years: &[(u32, Care)], numbers: &mut Numbers) {
+        if self.tells && sheet.len() <= TOLD {
+            self.note(format!("sheet {}", hex(sheet)));
+        }
+        let mut held = std::mem::take(&mut self.sheet);
+        held.hold(sheet);
+        self.reads_in_place(held.slice(), years, numbers);
+        let is_whole = held.holds(sheet);
+        self.whole(|| "after all reading".into(), "sheet's bytes", is_whole);
+        self.sheet = held;
+    }
+
+    /// Reads a sheet where it is.
+    pub fn reads_in_place(&mut self, sheet: &[u8], years: &[(u32, Care)], numbers: &mut Numbers) {
+        for (number, &(year, care)) in years.iter().enumerate() {
+            let accepted = self.reads_at(sheet, year, care, numbers);
+            if number == 0 {
+                self.accepted = accepted;
+            }
+        }
+    }
+
+    /// Reads a sheet at one year, and tells whether it is accepted.
+    fn reads_at(&mut self, sheet: &[u8], year: u32, care: Care, numbers: &mut Numbers) -> bool {
+        let due = second::read(sheet, year);
+        match &due {
+            Ok(reading) => self.meet_features(&reading.head, &reading.table),
+            Err(refusal) => self.meet_reason(reasons::of_sheet(sheet, *refusal)),
+        }
+        let answer = raw::check(sheet, year);
+        self.meet(Call::Check, answer.number);
+        self.same(|| format!("check at {year}"), answer, checked(&due));
+        if care != Care::Check {
+            self.unfolds(sheet, year, &due, care, numbers);
+            self.records_at(sheet, year, &due, care, numbers);
+            self.head_of(sheet, year, &due);
+            if let Ok(reading) = &due {
+                self.writes_back(sheet, year, reading);
+            }
+        }
+        due.is_ok()
+    }
+
+    /// Unfolds into slices of several lengths.
+    fn unfolds(&mut self, sheet: &[u8], year: u32, due: &Result<Reading, Refusal>, care: Care, numbers: &mut Numbers) {
+        let sizes = match due {
+            Ok(reading) => table_sizes(&reading.table),
+            Err(_) => [0; 3].map(|_: usize| numbers.index(40)),
+        };
+        let more = sizes.map(|size| size + numbers.index(9));
+        self.unfold(sheet, year, due, more);
+        if care == Care::Once {
+            return;
+        }
+        self.unfold(sheet, year, due, sizes);
+        self.unfold(sheet, year, due, [0; 3]);
+        if due.is_err() {
+            return;
+        }
+        for short in 0..3 {
+            if sizes[short] > 0 {
+                let mut rooms = if numbers.chance(1, 2) { sizes } else { more };
+                rooms[short] = sizes[short] - 1;
+                self.unfold(sheet, year, due, rooms);
+            }
+        }
+        let some = more.map(|size| numbers.index(size + 1));
+        self.unfold(sheet, year, due, some);
+        let mut none = more;
+        none[numbers.index(3)] = 0;
+        self.unfold(sheet, year, due, none);
+    }
+
+    /// Unfolds into slices of these lengths.
+    pub fn unfold(&mut self, sheet: &[u8], year: u32, due: &Result<Reading, Refusal>, rooms: [usize; 3]) {
+        let answer = raw::unfold(sheet, year, self.table.lend(rooms[0]), self.elements.lend(rooms[1]), self.bytes.lend(rooms[2]));
+        self.meet(Call::Unfold, answer.number);
+        let mut expected = checked(due);
+        let none = Table::default();
+        let mut written = &none;
+        if let Ok(reading) = due {
+            written = &reading.table;
+            let sizes = table_sizes(written);
+            if let Some(first) = (0..3).find(|&slice| rooms[slice] < sizes[slice]) {
+                let place = first as u64 + 1;
+                expected = raw::Checked { number: Refusal::ROOM, place, ..raw::Checked::default() };
+                written = &none;
+                self.meet_reason(Reason { way: Way::Read, number: Refusal::ROOM, at: Where::Lent(place), year: 0 });
+            }
+        }
+        let asked = || format!("unfold at {year} into {rooms:?}");
+        self.same(asked, answer, expected);
+        let found = self.table.holds(&written.numbers);
+        self.whole(asked, "numbers", found);
+        let found = self.elements.holds(&written.elements);
+        self.whole(asked, "elements", found);
+        let found = self.bytes.holds(&written.bytes);
+        self.whole(asked, "bytes", found);
+    }
+
+    /// Asks for records by number: those there are, and numbers near them,
+    /// also in their low 32 bits.
+    fn records_at(&mut self, sheet: &[u8], year: u32, due: &Result<Reading, Refusal>, care: Care, numbers: &mut Numbers) {
+        let count = due.as_ref().map_or(0, |reading| reading.records);
+        let last = count.wrapping_sub(1);
+        let any = numbers.below(count.max(1));
+        let asked = [any, count, 0, last, 1 << 32, (1 << 32) + any, u64::MAX, numbers.any()];
+        let few = if care == Care::Once || due.is_err() { 2 } else { asked.len() };
+        for &number in &asked[..few] {
+            self.record_at(sheet, year, number);
+        }
+    }
+
+    /// Asks for one record.
+    pub fn record_at(&mut self, sheet: &[u8], year: u32, number: u64) {
+        let answer = raw::record_at(sheet, year, number);
+        self.meet(Call::RecordAt, answer.number);
+        let expected = match second::record_at(sheet, year, number) {
+            Ok(record) => raw::Record {
+                number: 0,
+                place: 0,
+                year: 0,
+                at: record.at,
+                total: record.total,
+                code: record.code,
+                in_group: record.in_group,
+                group: record.group,
+                reference: record.reference,
+                generalisation: record.generalisation,
+                word: record.word,
+                parts: record.parts,
+                items: record.items,
+                points: record.points,
+            },
+            Err(refusal) => {
+                raw::Record { number: refusal.number, place: refusal.place, year: refusal.year, ..raw::Record::default() }
+            }
+        };
+        let asked = || format!("record {number} at {year}");
+        self.same(asked, answer, expected);
+    }
+
+    /// Asks for head, unit and corners.
+    pub(super) fn head_of(&mut self, sheet: &[u8], year: u32, due: &Result<Reading, Refusal>) {
+        let answer = raw::head_of(sheet, year);
+        self.meet(Call::HeadOf, answer.number);
+        let refusal = refusal_of(due);
+        let mut expected =
+            raw::HeadLengths { number: refusal.number, place: refusal.place, year: refusal.year, ..raw::HeadLengths::default() };
+        if let Ok(Reading { head, .. }) = due {
+            expected.date = head.date.len() as u64;
+            expected.designation = head.designation.len() as u64;
+            expected.title = head.title.len() as u64;
+            expected.designation2 = head.designation2.len() as u64;
+            expected.scale = u64::from(head.scale);
+        }
+        self.same(|| format!("head at {year}"), answer, expected);
+        self.unit_of(sheet, year);
+        self.corners_of(sheet, year);
+    }
+
+    fn unit_of(&mut self, sheet: &[u8], year: u32) {
+        let answer = raw::unit_of(sheet, year);
+        self.meet(Call::UnitOf, answer.number);
+        let due = second::unit(sheet, year);
+        let refusal = refusal_of(&due);
+        let (unit, byte) = match due {
+            Ok(second::Unit::DevicePoints) => (1, 0),
+            Ok(second::Unit::Metres) => (2, 0),
+            Ok(second::Unit::Radians) => (3, 0),
+            Ok(second::Unit::Degrees) => (4, 0),
+            Ok(second::Unit::Unknown(byte)) => (5, u64::from(byte)),
+            Err(_) => (0, 0),
+        };
+        let expected = raw::Unit { number: refusal.number, place: refusal.place, year: refusal.year, unit, byte };
+        self.met.units[unit as usize] = 1;
+        self.same(|| format!("unit at {year}"), answer, expected);
+    }
+
+    fn corners_of(&mut self, sheet: &[u8], year: u32) {
+        let answer = raw::corners_of(sheet, year);
+        self.meet(Call::CornersOf, answer.number);
+        let due = second::corners(sheet, year);
+        let refusal = refusal_of(&due);
+        let corners = due.unwrap_or([0; 8]);
+        let first = corners.iter().position(|&bits| f64::from_bits(bits).is_nan());
+        if refusal.number == 0 {
+            self.met.nans[first.map_or(0, |number| number + 1)] = 1;
+        }
+        let expected = raw::Corners {
+            number: refusal.number,
+            place: refusal.place,
+            year: refusal.year,
+            nan_at: first.map_or(0, |number| 104 + 8 * number as u64),
+            corners,
+        };
+        self.same(|| format!("corners at {year}"), answer, expected);
+    }
+
+    /// What was unfolded from a sheet is written to the same bytes.
+    fn writes_back(&mut self, sheet: &[u8], year: u32, reading: &Reading) {
+        let out = self.out.lend(sheet.len());
+        let answer = raw::write(year, &reading.head, &reading.table, out);
+        self.meet(Call::Write, answer.number);
+        let expected = raw::Written { length: sheet.len() as u64, ..raw::Written::default() };
+        let asked = || format!("writing back at {year}");
+        self.same(asked, answer, expected);
+        let found = self.out.holds(sheet);
+        self.whole(asked, "bytes", found);
+    }
+}
+
+fn checked(due: &Result<Reading, Refusal>) -> raw::Checked {
+    match due {
+        Ok(reading) => {
+            let [numbers, elements, bytes] = table_sizes(&reading.table).map(|size| size as u64);
+            raw::Checked { number: 0, place: 0, year: 0, sum: reading.sum, records: reading.records, numbers, elements, bytes }
+        }
+        Err(refusal) => {
+            raw::Checked { number: refusal.number, place: refusal.place, year: refusal.year, ..raw::Checked::default() }
+        }
+    }
+}

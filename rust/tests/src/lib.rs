@@ -1,0 +1,25 @@
+//! Holds the archive of the proved library against `second`, the independent
+//! reader and writer: both are given the same sheets and tables, right ones
+//! and damaged ones, and must answer alike in every number and byte.
+//!
+//! The words are document 01's. A case is told by its phase, its number and
+//! the seed of the run, and is the same in every run that has it.
+
+pub mod each;
+pub mod features;
+pub mod heads;
+pub mod judge;
+pub mod known;
+pub mod large;
+pub mod limits;
+pub mod memory;
+pub mod numbers;
+pub mod phases;
+pub mod places;
+pub mod raw;
+pub mod reasons;
+pub mod sheet_damage;
+pub mod sheets;
+pub mod table_damage;
+pub mod tables;
+pub mod tally;

@@ -1,0 +1,301 @@
+//! The phases: what a case is, and how many cases there are.
+
+use crate::each;
+use crate::heads::{head, NO_SETTINGS, SETTINGS};
+use crate::judge::{Care, Judge};
+use crate::known;
+use crate::large;
+use crate::limits;
+use crate::numbers::Numbers;
+use crate::places::places;
+use crate::sheet_damage;
+use crate::sheets::{setting, small_sheet, Made};
+use crate::table_damage;
+use crate::tables::{small, table};
+use second::{Head, Table};
+
+/// One kind of cases.
+#[derive(Clone, Copy, PartialEq, Eq, Debug)]
+pub enum Phase {
+    /// Document 01's own sheets.
+    Known,
+    /// Visibility under one flag byte, of all bytes.
+    Visibility,
+    /// Values of one number, of all types and scales.
+    Values,
+    /// Slices of no length, in all combinations.
+    Empty,
+    /// Sheets at the limit and over it.
+    Limits,
+    /// Every bit of a sheet.
+    EachBit,
+    /// Every cut of a sheet.
+    EachCut,
+    /// Every place for one value of a byte.
+    EachByte,
+    /// Every number of a table.
+    EachNumber,
+    /// Sheets that are right.
+    Sheets,
+    /// Sheets that were right.
+    DamagedSheets,
+    /// Tables that are right.
+    Tables,
+    /// Tables that were right.
+    DamagedTables,
+    /// Records of many points, parts, items or bytes, right or not.
+    Large,
+}
+
+pub const PHASES: [Phase; 14] = [
+    Phase::Known,
+    Phase::Visibility,
+    Phase::Values,
+    Phase::Empty,
+    Phase::Limits,
+    Phase::EachBit,
+    Phase::EachCut,
+    Phase::EachByte,
+    Phase::EachNumber,
+    Phase::Sheets,
+    Phase::DamagedSheets,
+    Phase::Tables,
+    Phase::DamagedTables,
+    Phase::Large,
+];
+
+impl Phase {
+    pub fn name(self) -> &'static str {
+        match self {
+            Phase::Known => "known",
+            Phase::Visibility => "visibility",
+            Phase::Values => "values",
+            Phase::Empty => "empty",
+            Phase::Limits => "limits",
+            Phase::EachBit => "each-bit",
+            Phase::EachCut => "each-cut",
+            Phase::EachByte => "each-byte",
+            Phase::EachNumber => "each-number",
+            Phase::Sheets => "sheets",
+            Phase::DamagedSheets => "damaged-sheets",
+            Phase::Tables => "tables",
+            Phase::DamagedTables => "damaged-tables",
+            Phase::Large => "large",
+        }
+    }
+
+    /// How many cases there are, and in a run so many times as long. Those
+    /// that go through everything there is are no more in a longer run.
+    pub fn cases(self, times: u64) -> u64 {
+        match self {
+            Phase::Known => known::CASES,
+            Phase::Visibility | Phase::Values | Phase::EachByte => 256,
+            Phase::Limits => limits::CASES,
+            Phase::Empty => 1024,
+            Phase::EachBit => 60 * times,
+            Phase::EachCut => 60 * times,
+            Phase::EachNumber => 200 * times,
+            Phase::Sheets => 100_000 * times,
+            Phase::DamagedSheets => 200_000 * times,
+            Phase::Tables => 70_000 * times,
+            Phase::DamagedTables => 140_000 * times,
+            Phase::Large => 2000 * times,
+        }
+    }
+
+    /// Whether its cases are drawn at random.
+    pub fn is_drawn(self) -> bool {
+        self.cases(2) > self.cases(1)
+    }
+
+    /// Runs one case.
+    pub fn run(self, judge: &mut Judge, seed: u64, case: u64) {
+        let numbers = &mut Numbers::of_case(seed, self as u64, case);
+        judge.start(numbers.any());
+        match self {
+            Phase::Known => known::run(judge, case),
+            Phase::Visibility => {
+                for byte in 0..=255 {
+                    judge.visibility(case as u8, byte);
+                }
+                judge.accepted = true;
+            }
+            Phase::Values => values(judge, numbers, case),
+            Phase::Empty => empty(judge, numbers, case),
+            Phase::Limits => limits::run(judge, case, numbers),
+            Phase::EachBit => {
+                let made = a_sheet(judge, numbers);
+                let year = not_before(numbers, made.year);
+                each::bits(judge, &made, year, numbers);
+            }
+            Phase::EachCut => {
+                let made = a_sheet(judge, numbers);
+                let year = not_before(numbers, made.year);
+                each::cuts(judge, &made, year, numbers);
+            }
+            Phase::EachByte => each::byte(judge, case as u8, numbers),
+            Phase::EachNumber => {
+                let (made, head, table) = a_table(judge, numbers);
+                let year = not_before(numbers, made);
+                each::table_numbers(judge, &head, &table, year, numbers);
+            }
+            Phase::Sheets => {
+                let made = a_sheet(judge, numbers);
+                judge.note("as written".into());
+                let year = not_before(numbers, made.year);
+                reads(judge, &made.sheet, year, numbers);
+            }
+            Phase::DamagedSheets => {
+                let made = a_sheet(judge, numbers);
+                damaged_sheet(judge, &made, numbers);
+            }
+            Phase::Tables => {
+                let (made, head, table) = a_table(judge, numbers);
+                judge.note("undamaged".into());
+                let year = not_before(numbers, made);
+                let years = with_others(numbers, year);
+                judge.writes(&head, &table, &years, numbers);
+            }
+            Phase::DamagedTables => {
+                let (made, head, table) = a_table(judge, numbers);
+                damaged_table(judge, made, head, table, numbers);
+            }
+            Phase::Large => large::run(judge, numbers),
+        }
+    }
+}
+
+fn a_sheet(judge: &mut Judge, numbers: &mut Numbers) -> Made {
+    let year = setting(numbers);
+    let made = small_sheet(numbers, year);
+    let length = made.sheet.len();
+    judge.note(format!("a sheet of {length} bytes for {year}"));
+    made
+}
+
+fn a_table(judge: &mut Judge, numbers: &mut Numbers) -> (u32, Head, Table) {
+    let year = setting(numbers);
+    let head = head(numbers, year);
+    let sizes = small(numbers);
+    let table = table(numbers, year, sizes);
+    let length = table.numbers.len();
+    judge.note(format!("a table of {length} numbers for {year}"));
+    (year, head, table)
+}
+
+/// A setting at which nothing made for this one is too new.
+pub(crate) fn not_before(numbers: &mut Numbers, year: u32) -> u32 {
+    let settings = SETTINGS.iter().position(|&setting| setting >= year);
+    numbers.pick(&SETTINGS[settings.unwrap_or(8)..])
+}
+
+/// The setting to ask at after damage: mostly one at which nothing was too
+/// new before it.
+fn after_damage(numbers: &mut Numbers, made: u32) -> u32 {
+    if numbers.chance(4, 5) {
+        not_before(numbers, made)
+    } else {
+        setting(numbers)
+    }
+}
+
+/// This year, another setting, often the first, and one time in four a year
+/// that is none.
+fn with_others(numbers: &mut Numbers, year: u32) -> Vec<u32> {
+    let other = numbers.pick(&SETTINGS);
+    let mut years = vec![year, numbers.pick(&[1999, other, other])];
+    if numbers.chance(1, 4) {
+        years.push(numbers.pick(&NO_SETTINGS));
+    }
+    years
+}
+
+/// Reads at a year with all care, at another setting with some, at the others
+/// for the refusals alone, and sometimes at years that are no settings.
+fn reads(judge: &mut Judge, sheet: &[u8], year: u32, numbers: &mut Numbers) {
+    let other = numbers.pick(&SETTINGS);
+    let mut years = vec![(year, Care::Whole), (other, Care::Once)];
+    for setting in SETTINGS {
+        if setting != year && setting != other {
+            years.push((setting, Care::Check));
+        }
+    }
+    if numbers.chance(1, 4) {
+        years.push((numbers.pick(&NO_SETTINGS), Care::Once));
+    }
+    judge.reads(sheet, &years, numbers);
+}
+
+pub(crate) fn damaged_sheet(judge: &mut Judge, made: &Made, numbers: &mut Numbers) {
+    let (sheet, notes) = sheet_damage::damage(numbers, made, &places(&made.table));
+    judge.notes.extend(notes);
+    let year = after_damage(numbers, made.year);
+    reads(judge, &sheet, year, numbers);
+}
+
+pub(crate) fn damaged_table(judge: &mut Judge, made: u32, mut head: Head, mut table: Table, numbers: &mut Numbers) {
+    let notes = table_damage::damage(numbers, &mut head, &mut table);
+    judge.notes.extend(notes);
+    let year = after_damage(numbers, made);
+    let years = with_others(numbers, year);
+    judge.writes(&head, &table, &years, numbers);
+}
+
+/// The value of one number for all types and scales: each bit alone, each
+/// run of ones, then any.
+fn values(judge: &mut Judge, numbers: &mut Numbers, case: u64) {
+    let any = numbers.any() as u32;
+    let bits = match case {
+        0..=31 => 1 << case,
+        32..=63 => u32::MAX >> (case - 32),
+        64..=95 => u32::MAX << (case - 64),
+        96 => 0,
+        97..=127 => any & 0xFFFF,
+        _ => any,
+    };
+    judge.note(format!("bits {bits:#x}"));
+    for kind in 0..=255 {
+        for scale in 0..=255 {
+            judge.value(kind, scale, bits);
+        }
+    }
+    judge.accepted = true;
+}
+
+/// A table with some of its eight slices empty, written; and a sheet, empty
+/// or not, unfolded into slices of which some are empty.
+fn empty(judge: &mut Judge, numbers: &mut Numbers, case: u64) {
+    let year = setting(numbers);
+    let made = small_sheet(numbers, year);
+    let is_empty = |slice: u64| case >> slice & 1 == 1;
+    let Made { mut head, mut table, mut sheet, .. } = made;
+    let texts = [&mut head.date, &mut head.designation, &mut head.title, &mut head.designation2];
+    for (slice, text) in texts.into_iter().enumerate() {
+        if is_empty(slice as u64) {
+            *text = Vec::new();
+        }
+    }
+    if is_empty(4) {
+        table.numbers = Vec::new();
+    }
+    if is_empty(5) {
+        table.elements = Vec::new();
+    }
+    if is_empty(6) {
+        table.bytes = Vec::new();
+    }
+    judge.note(format!("slices left empty: {case:#b}"));
+    let due = second::write(year, &head, &table, usize::MAX);
+    let room = if is_empty(7) { 0 } else { 4096 };
+    judge.write(year, &head, &table, room, &due);
+    judge.writes(&head, &table, &[year, 0], numbers);
+    if is_empty(8) {
+        sheet = Vec::new();
+    }
+    let due = second::read(&sheet, year);
+    for rooms in 0..8 {
+        let of = |slice: usize| if rooms >> slice & 1 == 1 { 0 } else { 4096 };
+        judge.unfold(&sheet, year, &due, [of(0), of(1), of(2)]);
+    }
+    reads(judge, &sheet, year, numbers);
+}

@@ -1,0 +1,55 @@
+//! Sheets that are accepted at a year, with what they were written from.
+
+use crate::heads::{head, SETTINGS};
+use crate::numbers::Numbers;
+use crate::tables::{small, table, Sizes};
+use second::{Head, Table};
+
+/// A sheet, and what it was written from.
+pub struct Made {
+    /// No feature is later than this setting.
+    pub year: u32,
+    pub head: Head,
+    pub table: Table,
+    pub sheet: Vec<u8>,
+}
+
+/// A setting; the last is as likely as three others, for it has all features.
+pub fn setting(numbers: &mut Numbers) -> u32 {
+    if numbers.chance(1, 4) {
+        2017
+    } else {
+        numbers.pick(&SETTINGS)
+    }
+}
+
+/// A sheet of a few records.
+pub fn small_sheet(numbers: &mut Numbers, year: u32) -> Made {
+    let sizes = small(numbers);
+    sheet(numbers, year, sizes)
+}
+
+/// A sheet of these sizes.
+pub fn sheet(numbers: &mut Numbers, year: u32, sizes: Sizes) -> Made {
+    let head = head(numbers, year);
+    let table = table(numbers, year, sizes);
+    written(year, head, table)
+}
+
+/// The sheet of a head and a table that are known to be right.
+pub fn written(year: u32, head: Head, table: Table) -> Made {
+    let sheet = match second::write(year, &head, &table, usize::MAX) {
+        Ok(sheet) => sheet,
+        Err(refusal) => panic!("what was made as a right table is refused: {refusal:?}"),
+    };
+    Made { year, head, table, sheet }
+}
+
+/// Puts the sum right, if the sheet is long enough to have one.
+pub fn put_sum_right(sheet: &mut [u8]) {
+    if sheet.len() >= 16 {
+        sheet[12..16].fill(0);
+        let sum = sheet.iter().fold(0u32, |sum, &byte| sum.wrapping_add(u32::from(byte)));
+        sheet[12..16].copy_from_slice(&sum.to_le_bytes());
+    }
+}
