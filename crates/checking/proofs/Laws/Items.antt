@@ -9,12 +9,13 @@ use lib.ListN.{length, take, drop, length-drop}
 use lib.Seq.{drop-drop, length-take-le}
 use native.Mathlib.Nat.{add-zero}
 use native.Mathlib.Omega.{arith}
-use Rattle.checking.proofs.Laws.Steps.{step-on, step-stop, step-holds}
+use Rattle.checking.proofs.Laws.Steps.{step-on, step-stop}
 use Rattle.checking.specs.Items.{shapeOf, Shaped, shapeChecks, valueChecks, valueWalk}
 use Rattle.checking.specs.Tally.{tally, shown}
 use Rattle.checking.specs.declared.tally.Counted.{Counted}
 use Rattle.checking.specs.declared.tally.Counted.the-variants.{Fine, Refused}
 use Rattle.checking.specs.declared.items.Shape.{Shape}
+use Rattle.fields.proofs.Chain.{step-holds}
 use Rattle.fields.specs.Steps.{Next}
 use Rattle.fields.specs.declared.steps.Step.{Step}
 use Rattle.fields.specs.declared.steps.Step.the-variants as Stp

@@ -9,7 +9,7 @@ use lib.ListN.{length, take, drop, length-drop}
 use lib.Seq.{drop-drop, length-take-le}
 use native.Mathlib.Nat.{add-zero, zero-add, suc-add}
 use native.Mathlib.Omega.{arith}
-use Rattle.fields.proofs.Chain.{as-checks}
+use Rattle.fields.proofs.Chain.{as-checks, refusedBy, step-holds, step-on, step-stop, then-on, then-stop}
 use Rattle.fields.specs.Steps.{Next}
 use Rattle.fields.specs.declared.steps.Step.{Step}
 use Rattle.fields.specs.declared.steps.Step.the-variants as Stp
@@ -26,7 +26,6 @@ use Rattle.layout.specs.declared.Refusal.{Refusal}
 use Rattle.laws.proofs.Base.Lists.{both-true}
 use Rattle.laws.proofs.Writing.Items.{item-takes, item-numbers}
 use Rattle.taking.proofs.Laws.Moves.{Went, went, stopped, number-after}
-use Rattle.taking.proofs.Laws.Steps.{refusedBy, step-holds, step-on, step-stop, then-on, then-stop}
 use Rattle.taking.specs.Items.{rowOf, valueOf, lengthOf, sizeRules, valueRules}
 use Rattle.taking.specs.Places.{capped, here, movedOf, At}
 use Rattle.taking.specs.declared.items.ItemNumbers.{ItemNumbers}

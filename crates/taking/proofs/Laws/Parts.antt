@@ -9,12 +9,13 @@ use lib.ListN.{length, getD, take, drop, length-drop}
 use lib.Seq.{length-take-le, getD-drop}
 use native.Mathlib.Nat.{add-zero, zero-add, mul-le-mul-left}
 use native.Mathlib.Omega.{arith}
-use Rattle.fields.proofs.Chain.{as-checks}
+use Rattle.fields.proofs.Chain.{as-checks, refusedBy, step-holds, step-on, step-stop, then-on, then-stop}
 use Rattle.fields.specs.Shapes.{shapeOf, dimensions, widthsOf}
 use Rattle.fields.specs.Steps.{Next}
 use Rattle.fields.specs.declared.shapes.Shape.{Shape}
 use Rattle.fields.specs.declared.steps.Step.{Step}
 use Rattle.fields.specs.declared.steps.Step.the-variants as Stp
+use Rattle.laws.proofs.Base.Walks.{checks-append}
 use Rattle.layout.specs.Bytes.{repeat}
 use Rattle.layout.specs.Layout.Fine.{FineSubobject}
 use Rattle.layout.specs.Layout.Sizes.{partBytes, subobjectBytes}
@@ -27,7 +28,6 @@ use Rattle.layout.specs.Writing.Tables.{table, Taken, taken, flattenPart}
 use Rattle.layout.specs.declared.Refusal.{Refusal}
 use Rattle.laws.proofs.Writing.Parts.{subobject-takes, part-numbers}
 use Rattle.taking.proofs.Laws.Moves.{Went, went, stopped, number-after}
-use Rattle.taking.proofs.Laws.Steps.{refusedBy, checks-append, step-holds, step-on, step-stop, then-on, then-stop}
 use Rattle.taking.specs.Parts.{elementsBy, poolsBy, bytesBy, headed, poolWalk}
 use Rattle.taking.specs.Places.{capped, here, movedOf, At}
 use Rattle.taking.specs.declared.places.Moved.{Moved}
