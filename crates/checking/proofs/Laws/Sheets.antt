@@ -1,11 +1,11 @@
 -- The ways out of a sheet, over plain variables.
 use mathlib.Core.Bool.{true, false}
-use mathlib.Core.List.{List, [], _∷_, _++_}
+use mathlib.Core.List.{List, [], _++_}
 use mathlib.Core.Path.{_≡_, refl, sym, ap, _∙_}
-use Prim.Native.Nat.{ℕ, suc, _+_, _-_, _^_, _≤_, _<_}
+use Prim.Native.Nat.{ℕ, _+_, _-_, _^_, _≤_, _<_}
 use borrow.Author.Tests.{le-leb, lt-leb}
 use lib.Dec.{leb}
-use lib.ListN.{length, take, drop, getD, length-drop}
+use lib.ListN.{length, take, drop, length-drop}
 use native.Mathlib.Nat.{add-zero}
 use native.Mathlib.Omega.{arith}
 use Rattle.checking.specs.Sheets.{headRules, Headed}
@@ -48,11 +48,6 @@ counted-stop f (refused n p y) q e = let i : refusal n p y ≡ q = cc in rw (←
 counted-fine : {A : Type 0} (f : A → Tally) (v : Answer A) (z : Tally) → countedOf f v ≡ Fine z → (a : A) × (v ≡ given a) × (f a ≡ z)
 counted-fine f (given a) z e = (a, refl, cc)
 counted-fine f (refused n p y) z e = let w : _≡_ {A = ℕ} 0 1 = cc in absurd (omega arith)
-
--- all bytes, from what the code knows of a slice
-pub all-bytes : (s : List ℕ) → ((i : ℕ) → getD s i 0 < 256) → Bytes s
-all-bytes [] g = tt
-all-bytes (x ∷ s) g = (g 0, all-bytes s (λ i. g (suc i)))
 
 -- the sum that an accepted sheet states is its own
 sum-is : (y : ℕ) (s : List ℕ) → Bytes s → (t : Sheet) → answer (upTo y) (sheetWalk s) ≡ given t → number 4 (drop 12 s) ≡ sheetSum t
