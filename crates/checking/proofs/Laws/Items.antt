@@ -19,8 +19,6 @@ use Rattle.fields.proofs.Chain.{step-holds}
 use Rattle.fields.specs.Steps.{Next}
 use Rattle.fields.specs.declared.steps.Step.{Step}
 use Rattle.fields.specs.declared.steps.Step.the-variants as Stp
-use Rattle.laws.proofs.Base.Lists.{last-of}
-use Rattle.laws.proofs.Encoding.Kinds.{good-is, closing-under}
 use Rattle.layout.specs.Answers.Enums.{refusal}
 use Rattle.layout.specs.Bytes.{number, zeros}
 use Rattle.layout.specs.Reading.Items.{itemChecks, itemWalk, kindIn, valueAt, valueSize, itemSize, itemIn}
@@ -29,8 +27,10 @@ use Rattle.layout.specs.Refusals.{LENGTH}
 use Rattle.layout.specs.Walk.{upTo, must, checks, _>>_, ends, piece}
 use Rattle.layout.specs.Writing.Tables.{flattenItem}
 use Rattle.layout.specs.declared.Refusal.{Refusal}
+use Rattle.laws.proofs.Base.Lists.{last-of}
 use Rattle.laws.proofs.Base.Readers.{Sized}
 use Rattle.laws.proofs.Base.Walks.{given-inj, checks-case, checks-append}
+use Rattle.laws.proofs.Encoding.Kinds.{good-is, closing-under}
 
 never : false ≡ true → ⊥
 never e = let z : _≡_ {A = ℕ} 0 1 = cc in omega arith

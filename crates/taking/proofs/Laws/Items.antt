@@ -13,8 +13,6 @@ use Rattle.fields.proofs.Chain.{as-checks, refusedBy, step-holds, step-on, step
 use Rattle.fields.specs.Steps.{Next}
 use Rattle.fields.specs.declared.steps.Step.{Step}
 use Rattle.fields.specs.declared.steps.Step.the-variants as Stp
-use Rattle.laws.proofs.Base.Lists.{last-of}
-use Rattle.laws.proofs.Encoding.Kinds.{good-is, closing-under}
 use Rattle.layout.specs.Bytes.{zeros}
 use Rattle.layout.specs.Layout.Fine.{FineItem}
 use Rattle.layout.specs.Layout.Sizes.{itemBytes}
@@ -25,6 +23,8 @@ use Rattle.layout.specs.Walk.{Walk, Check, must, answer, upTo, holds, checks, _
 use Rattle.layout.specs.Writing.Items.{ItemRow, itemRowIn, itemRules, takeItem}
 use Rattle.layout.specs.Writing.Tables.{table, Taken, taken, flattenItem}
 use Rattle.layout.specs.declared.Refusal.{Refusal}
+use Rattle.laws.proofs.Base.Lists.{last-of}
+use Rattle.laws.proofs.Encoding.Kinds.{good-is, closing-under}
 use Rattle.laws.proofs.Writing.Items.{item-takes, item-numbers}
 use Rattle.taking.proofs.Laws.Moves.{Went, went, stopped, number-after}
 use Rattle.taking.specs.Items.{rowOf, valueOf, lengthOf, sizeRules, valueRules}
