@@ -10,13 +10,14 @@ use Rattle.emitting.specs.Cursors.{tableOf, moved}
 use Rattle.emitting.specs.Parts.{PartFits, partBytes, subobjectBytes}
 use Rattle.emitting.specs.Pieces.{Piece, Emitted}
 use Rattle.emitting.specs.declared.cursors.Cursor.{Cursor}
+use Rattle.fields.proofs.Widths.{widths-count}
 use Rattle.fields.specs.Shapes.{dimensions, widthsOf, pointOf}
 use Rattle.fields.specs.declared.shapes.Shape.{Shape}
 use Rattle.layout.specs.Bytes.{bytes, FitAll, repeat, storedAll}
 use Rattle.layout.specs.Layout.Encode.{encodeText}
 use Rattle.layout.specs.Layout.Fine.{FineLabel}
 use Rattle.layout.specs.Shared.Row
-use Rattle.layout.specs.Shared.Widths.{elementWidths, point-is-elements}
+use Rattle.layout.specs.Shared.Widths.{point-is-elements}
 use Rattle.layout.specs.Sheet.{Part, Table}
 use Rattle.layout.specs.Writing.Tables.{flattenPart}
 use Rattle.laws.proofs.Base.Numbers.{length-stored, total-repeat}
@@ -57,10 +58,6 @@ stored-more : (ws xs r : List ℕ) → FitAll ws xs → storedAll ws (xs ++ r) �
 stored-more [] xs r f = refl
 stored-more (w ∷ ws) [] r f = absurd f
 stored-more (w ∷ ws) (x ∷ xs) r f = ap (λ l. bytes w x ++ l) (stored-more ws xs r (f .1))
-
-widths-count : (size float three : Bool) → length (elementWidths size float three) ≡ dimensions three
-widths-count size float true = refl
-widths-count size float false = refl
 
 -- the part at the cursor, whatever its bytes are
 module _ (B : Shape → Part → List ℕ) (ns es bs : List ℕ) (s : Shape) (c : Cursor) (ol : ℕ) (p : Piece flattenPart (PartFits s) (B s) c (tableOf ns es bs) ol) where

@@ -19,9 +19,10 @@ use Rattle.layout.specs.Layout.Encode.{encodeItem, encodePart, encodeSubobject,
 use Rattle.layout.specs.Layout.Fine.{FineItem, FineSubobject, FineRecord}
 use Rattle.layout.specs.Shared.Mark.{takesMark}
 use Rattle.layout.specs.Shared.Row
-use Rattle.layout.specs.Sheet.{Item, Part, Reference, Record, Table}
+use Rattle.layout.specs.Sheet.{Part, Reference, Record, Table}
 use Rattle.layout.specs.Writing.Tables.{table, join, joined, flattenHeader, flattenPart, flattenItem, flattenRecord}
 use Rattle.laws.proofs.Encoding.Lengths.{length-header, length-record}
+use Rattle.laws.proofs.Writing.Items.{items-flat}
 use Rattle.laws.proofs.Writing.Records.{fine-near, near-first, bytes-of-number, record-numbers}
 use Rattle.laws.proofs.Writing.Takes.{join-assoc, table-path}
 use Rattle.emitting.proofs.Moves.{moved-twice, room-second, ahead-moved, emitted, pair-first, pair-second, pair-done}
@@ -31,12 +32,6 @@ use Rattle.emitting.proofs.Unique.{Unique, part-unique, item-unique, re
 all-map : {A : Type 0} (F G : A → Type 0) → ((a : A) → F a → G a) → (l : List A) → All F l → All G l
 all-map F G h [] f = tt
 all-map F G h (a ∷ l) f = (h a (f .0), all-map F G h l (f .1))
-
--- no item has elements
-items-flat : (l : List Item) → joined flattenItem l .elements ≡ []
-unfolding flattenItem
-items-flat [] = refl
-items-flat (i ∷ l) = items-flat l
 
 -- items where the pool of elements is not lent
 abbrev pub noElements : Cursor → Cursor

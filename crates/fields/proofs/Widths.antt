@@ -1,15 +1,25 @@
--- Points whose elements are all of one width are so many elements of that width: for code that chooses a loop by the width.
+-- How many elements points have, and bytes at most. Points whose elements are all of one width are so many elements of that width: for
+-- code that chooses a loop by the width.
 use mathlib.Core.Bool.{Bool, true, false, cond}
 use mathlib.Core.List.{[], _∷_}
 use mathlib.Core.Path.{_≡_, refl, sym, ap, _∙_}
-use Prim.Native.Nat.{ℕ, zero, suc, _*_}
+use Prim.Native.Nat.{ℕ, zero, suc, _*_, _^_, _≤_, _<_}
 use lib.ListN.{length}
-use native.Mathlib.Nat.{zero-mul, mul-comm, mul-one}
+use native.Mathlib.Nat.{zero-mul, mul-comm, mul-one, mul-le-mul-left}
 use native.Mathlib.Omega.{arith}
 use Rattle.fields.specs.Shapes.{dimensions}
 use Rattle.laws.proofs.Base.Numbers.{length-repeat, total-repeat}
 use Rattle.layout.specs.Bytes.{repeat, total}
 use Rattle.layout.specs.Shared.Widths.{elementWidths, pointBytes, point-is-elements}
+
+-- how many elements a point has
+pub widths-count : (size float three : Bool) → length (elementWidths size float three) ≡ dimensions three
+widths-count size float true = refl
+widths-count size float false = refl
+
+-- so many points of so many bytes
+pub product-fits : (points k : ℕ) → points < 2 ^ 32 → k ≤ 24 → points * k < 103079215105
+product-fits points k h l = omega (arith, mul-le-mul-left points l)
 
 pub record OneWidth (p : ℕ) (size float three : Bool) : Type 0 where
   pub widths : elementWidths size float three ≡ p ∷ p ∷ cond three (p ∷ []) []

@@ -54,12 +54,6 @@ long-fits t at xl e h = rw e at h
 pub item-grows : (ys : List ℕ) → 0 < itemSize ys
 item-grows ys = omega arith
 
--- no item has elements
-pub items-flat : (l : List Item) → joined flattenItem l .elements ≡ []
-unfolding flattenItem
-items-flat [] = refl
-items-flat (i ∷ l) = items-flat l
-
 -- an item has four numbers
 pub items-four : (l : List Item) → length (joined flattenItem l .numbers) ≡ 4 * length l
 unfolding flattenItem

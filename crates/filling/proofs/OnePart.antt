@@ -1,5 +1,5 @@
 -- A part and a later part in pass 2, over plain variables: what the code asks and what it has done.
-use mathlib.Core.Bool.{Bool, true, false, cond}
+use mathlib.Core.Bool.{cond}
 use mathlib.Core.List.{List, [], _∷_}
 use mathlib.Core.Path.{_≡_, refl, sym, ap, _∙_}
 use Prim.Native.Nat.{ℕ, _+_, _*_, _≤_}
@@ -7,21 +7,17 @@ use lib.ListN.{length, drop, length-drop}
 use lib.Seq.{sets, drop-drop}
 use native.Mathlib.Nat.{add-assoc}
 use native.Mathlib.Omega.{arith}
+use Rattle.fields.proofs.Widths.{widths-count}
 use Rattle.filling.specs.Cursors.{moved, Room, Wrote}
 use Rattle.filling.specs.Parts.{textIn, textSize, partIn, partSize, countIn, subobjectIn, subobjectSize}
 use Rattle.fields.specs.Shapes.{dimensions, widthsOf, pointOf}
 use Rattle.filling.specs.declared.cursors.Cursor.{Cursor}
 use Rattle.fields.specs.declared.shapes.Shape.{Shape}
 use Rattle.layout.specs.Bytes.{number, numbers, repeat}
-use Rattle.layout.specs.Shared.Widths.{elementWidths}
 use Rattle.layout.specs.Sheet.{Table}
 use Rattle.layout.specs.Writing.Tables.{table, flattenPart}
 use Rattle.laws.proofs.Base.Numbers.{length-numbers, length-repeat}
 use Rattle.filling.proofs.Elements.{text-takes}
-
-pub widths-count : (size float three : Bool) → length (elementWidths size float three) ≡ dimensions three
-widths-count size float true = refl
-widths-count size float false = refl
 
 module _ (xs : List ℕ) (s : Shape) (count : ℕ) (c : Cursor) where
   -- the part's text starts after its points

@@ -12,6 +12,7 @@ use Rattle.filling.specs.Pieces.{timesIn, timesSize, fillIn, fillSize}
 use Rattle.filling.specs.Records.{shapeIn, firstIn, laterIn, recordOf, recordIn, recordSize, metricSize, metricTable, rowOf, RecordFits, inside}
 use Rattle.filling.specs.declared.cursors.Cursor.{Cursor}
 use Rattle.fields.specs.declared.shapes.Shape.{Shape}
+use Rattle.laws.proofs.Writing.Items.{items-flat}
 use Rattle.layout.specs.Bytes.{number}
 use Rattle.layout.specs.Reading.Items.{itemIn, itemSize}
 use Rattle.layout.specs.Reading.Records.{Header, headerIn, metricIn, semanticsIn}
@@ -21,7 +22,7 @@ use Rattle.layout.specs.Sheet.{Item, Table}
 use Rattle.layout.specs.Writing.Tables.{table, join, joined, flattenHeader, flattenPart, flattenItem, flattenRecord}
 use Rattle.filling.proofs.Loops.{times-length}
 use Rattle.filling.proofs.Moves.{moved-twice, room-first, room-second}
-use Rattle.filling.proofs.OneItem.{items-flat, items-four}
+use Rattle.filling.proofs.OneItem.{items-four}
 use Rattle.fields.proofs.Put.{sets-append, sets-swap}
 
 -- one table after another

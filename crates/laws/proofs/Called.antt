@@ -6,8 +6,7 @@ use Prim.Native.Nat.{ℕ, _≤_}
 use borrow.Author.Tests.{leb-true, le-leb}
 use lib.Dec.{leb}
 use lib.ListN.{length}
-use native.Mathlib.Omega.{arith}
-use Rattle.layout.specs.Answers.Calls.{andThen, reading, written}
+use Rattle.layout.specs.Answers.Calls.{reading, written}
 use Rattle.layout.specs.Bytes.{All, Bytes}
 use Rattle.layout.specs.Fields.{limit}
 use Rattle.layout.specs.Layout.Encode.{encode}
@@ -15,11 +14,11 @@ use Rattle.layout.specs.Layout.Fine.{Fine}
 use Rattle.layout.specs.Layout.Uses.{years}
 use Rattle.layout.specs.Reading.Sheets.{sheetWalk}
 use Rattle.layout.specs.Sheet.{Head, Sheet, Table}
-use Rattle.layout.specs.Walk.{Answer, given, refused, answer, upTo}
+use Rattle.layout.specs.Walk.{given, answer, upTo}
 use Rattle.layout.specs.Writing.Sheets.{tableWalk}
 use Rattle.layout.specs.Writing.Tables.{flatten}
 use Rattle.layout.specs.Years.{isSetting}
-use Rattle.laws.proofs.Base.Walks.{given-inj, cond-back, allowed-upTo}
+use Rattle.laws.proofs.Base.Walks.{given-inj, cond-back, allowed-upTo, then-back}
 use Rattle.laws.proofs.Encoding.Plain.{encode-bytes, pool-bytes}
 use Rattle.laws.proofs.Exact.{table}
 use Rattle.laws.proofs.Reading.Sheets.{sheet-sound, sheet-complete}
@@ -62,10 +61,6 @@ pub record Wrote (year : ℕ) (h : Head) (t : Table) (room : ℕ) (s : List ℕ)
   pub records : flatten (u .records) ≡ t
   pub is : encode u ≡ s
   pub fits : length s ≤ room
-
-then-back : {A B : Type 0} (w : Answer A) (f : A → Answer B) (b : B) → andThen w f ≡ given b → (a : A) × (w ≡ given a) × (f a ≡ given b)
-then-back (given a) f b e = (a, refl, e)
-then-back (refused n p z) f b e = let z : _≡_ {A = ℕ} 0 1 = cc in absurd (omega arith)
 
 module _ (year : ℕ) (h : Head) (t : Table) (room : ℕ) (s : List ℕ) where
   pub written-sound : Typed h → Bytes (t .bytes) → written year h t room ≡ given s → (u : Sheet) × Wrote year h t room s u

@@ -1,11 +1,10 @@
 -- The round trips, and later years, as promises of the calls' contracts. (Demand 2: "Writing the reading of an accepted sheet gives its
 -- bytes again; reading a written sheet gives back the table." Demand 3: "What the writer makes for a year reads the same at it and at every
 -- later year.") `Typed h` and `Bytes` say no more than the types of what is lent.
-use mathlib.Core.Bool.{true, cond}
+use mathlib.Core.Bool.{true}
 use mathlib.Core.List.{List, _++_}
-use mathlib.Core.Path.{_≡_, refl, sym, ap, _∙_, subst}
+use mathlib.Core.Path.{_≡_, refl, sym, ap, _∙_}
 use Prim.Native.Nat.{ℕ, _≤_}
-use borrow.Author.Tests.{le-leb}
 use lib.Dec.{leb}
 use lib.ListN.{length, take, drop}
 use lib.Seq.{take-append-seam}
@@ -26,11 +25,11 @@ use Rattle.layout.specs.declared.Sizes.{Sizes}
 use Rattle.layout.specs.declared.Written.the-variants as Write
 use Rattle.layout.specs.declared.Written.{Written}
 use Rattle.laws.proofs.Again as Law
-use Rattle.laws.proofs.Base.Walks.{given-inj, cond-back}
+use Rattle.laws.proofs.Base.Walks.{given-inj, cond-back, then-back}
 use Rattle.laws.proofs.Writing.Sheets.{Typed}
 use Rattle.promises.proofs.Contracts.{Checks, Heads, Unfolds, Writes}
 use Rattle.reading.proofs.Accepted.{read-head}
-use Rattle.reading.proofs.Seen.{Seen, seen}
+use Rattle.reading.proofs.Seen.{seen, by-accepted}
 use Rattle.reading.specs.Rooms.{rooms, theNumbers, theElements, theBytes}
 use Rattle.writing.specs.Sheets.{theSheet}
 
@@ -90,10 +89,6 @@ rooms-same r t v e =
     let c = cond-back (leb (length (t .bytes)) (r .bytes)) _ _ _ _ v (b .1) in
     given-inj (c .1)
 
-then-back : {A B : Type 0} (w : Answer A) (f : A → Answer B) (b : B) → andThen w f ≡ given b → (a : A) × (w ≡ given a) × (f a ≡ given b)
-then-back (given a) f b e = (a, refl, e)
-then-back (refused n p z) f b e = let x : _≡_ {A = ℕ} 0 1 = cc in absurd (omega arith)
-
 -- a sheet that was unfolded
 roomy-back : (y : ℕ) (s : List ℕ) (r : Rooms) (u : Sheet) → roomy y s r ≡ given u → (reading y s ≡ given u) × (unfolded y s r ≡ given (flatten (u .records)))
 unfolding roomy unfolded
@@ -106,11 +101,6 @@ roomy-back y s r u e =
       read,
       ap (λ x. andThen x (λ v. inRooms r (flatten (v .records)))) (a .1) ∙ b .1 ∙ ap given table-is ∙ ap (λ v. given (flatten (v .records))) same,
     )
-
-by-accepted : (a : Answer Sheet) (z : Sizes) → Check.Accepted z ≡ checkedOf a → (u : Sheet) × (a ≡ given u) × (z ≡ sizesOf u)
-unfolding checkedOf
-by-accepted (given u) z e = (u, refl, cc)
-by-accepted (refused n p y) z e = absurd (let q : _≡_ {A = ℕ} 0 1 = cc in omega arith)
 
 -- the head of a sheet that is read stands in it
 head-is : (y : ℕ) (s : List ℕ) (u : Sheet) → reading y s ≡ given u → headIn s ≡ u .head

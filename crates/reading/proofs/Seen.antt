@@ -15,7 +15,7 @@ use mathlib.Core.List.{List}
 use mathlib.Core.Path.{_≡_, refl, sym, _∙_}
 use native.Mathlib.Omega.{arith}
 
-by-accepted : (a : Answer Sheet) (z : Sizes) → Check.Accepted z ≡ checkedOf a → (t : Sheet) × (a ≡ given t) × (z ≡ sizesOf t)
+pub by-accepted : (a : Answer Sheet) (z : Sizes) → Check.Accepted z ≡ checkedOf a → (t : Sheet) × (a ≡ given t) × (z ≡ sizesOf t)
 unfolding checkedOf
 by-accepted (given t) z e = (t, refl, cc)
 by-accepted (refused n p y) z e = absurd (let q : _≡_ {A = ℕ} 0 1 = cc in omega arith)

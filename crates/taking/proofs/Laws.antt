@@ -1,5 +1,4 @@
 -- Laws that the functions' proofs cite.
-pub mod Steps
 pub mod Moves
 pub mod Items
 pub mod Elements

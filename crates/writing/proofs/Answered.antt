@@ -8,6 +8,7 @@ use lib.Dec.{leb}
 use lib.ListN.{length}
 use lib.Seq.{sets}
 use native.Mathlib.Omega.{arith}
+use Rattle.fields.proofs.Chain.{refusedBy}
 use Rattle.fields.proofs.Put.{front-laid}
 use Rattle.layout.specs.Answers.Calls.{settingOf, written, lent}
 use Rattle.layout.specs.Answers.Enums.{refusal, writtenOf}
@@ -26,7 +27,6 @@ use Rattle.layout.specs.declared.Written.{Written}
 use Rattle.laws.proofs.Writing.Limits.{all-near}
 use Rattle.laws.proofs.Writing.Sheets.{Typed, table-sound}
 use Rattle.laws.proofs.Writing.Sizes.{encode-length}
-use Rattle.taking.proofs.Laws.Steps.{refusedBy}
 use Rattle.taking.specs.declared.tables.Rows.the-variants as Are
 use Rattle.taking.specs.declared.tables.Rows.{Rows}
 use Rattle.taking.specs.declared.tables.Totals.{Totals}

@@ -7,6 +7,7 @@ use borrow.Author.Tests.{le-leb, lt-leb, leb-false}
 use lib.Dec.{leb}
 use lib.ListN.{length}
 use native.Mathlib.Omega.{arith}
+use Rattle.fields.proofs.Chain.{refusedBy, step-holds, step-on, step-stop}
 use Rattle.fields.specs.Steps.{Next}
 use Rattle.fields.specs.declared.steps.Step.the-variants as Stp
 use Rattle.fields.specs.declared.steps.Step.{Step}
@@ -26,12 +27,11 @@ use Rattle.layout.specs.Writing.Rows.{rowsWalk}
 use Rattle.layout.specs.Writing.Sheets.{titleRules, headWalk, limitRules, tableWalk}
 use Rattle.layout.specs.declared.Refusal.{Refusal}
 use Rattle.laws.proofs.Base.Chains.{four-then}
-use Rattle.laws.proofs.Base.Walks.{bind-on}
+use Rattle.laws.proofs.Base.Walks.{bind-on, bind-refused, checks-append}
 use Rattle.laws.proofs.Writing.Rows.{rows-back}
 use Rattle.laws.proofs.Writing.Sheets.{Typed, head-back}
 use Rattle.laws.proofs.Writing.Sizes.{encode-length}
 use Rattle.taking.proofs.Laws.Moves.{capped-back}
-use Rattle.taking.proofs.Laws.Steps.{refusedBy, bind-refused, checks-append, step-holds, step-on, step-stop}
 use Rattle.taking.specs.Places.{capped}
 use Rattle.taking.specs.Tables.{rowsOf}
 use Rattle.taking.specs.declared.tables.Rows.the-variants as Are
@@ -108,7 +108,7 @@ module _ (y : ℕ) (h : Head) (t : Table) (r : Step) (n : Next Stp.Fine y 0 (hea
     pub rows-stop : (q : Refusal) → v ≡ Are.Refused q → Are.Refused q ≡ measuredOf all
     rows-stop q e =
         let w = rows-refused (answer (upTo y) (rowsWalk t)) q (sym rows ∙ e) in
-        sym (ap measuredOf (on ∙ bind-refused (upTo y) (rowsWalk t) (limited h) q w))
+        sym (ap measuredOf (on ∙ bind-refused (upTo y) (rowsWalk t) (limited h) w))
 
     module _ (typed : Typed h) (bs : Bytes (t .bytes)) (z : Totals) (e : v ≡ Are.Fine z) where
       -- the records, and how long their sheet is

@@ -6,15 +6,16 @@ use Prim.Native.Nat.{ℕ, _+_, _-_, _%_, _≤_, _<_}
 use borrow.Author.Tests.{le-leb, lt-leb, leb-true}
 use lib.Dec.{eqb, leb}
 use lib.ListN.{length, take, drop, length-drop}
-use lib.Seq.{drop-drop, length-take-le}
+use lib.Seq.{length-take-le}
 use native.Mathlib.Nat.{add-zero}
 use native.Mathlib.Omega.{arith}
-use Rattle.checking.proofs.Laws.Steps.{step-on, step-stop, step-holds}
+use Rattle.checking.proofs.Laws.Steps.{step-on, step-stop}
 use Rattle.checking.specs.Items.{shapeOf, Shaped, shapeChecks, valueChecks, valueWalk}
 use Rattle.checking.specs.Tally.{tally, shown}
 use Rattle.checking.specs.declared.tally.Counted.{Counted}
 use Rattle.checking.specs.declared.tally.Counted.the-variants.{Fine, Refused}
 use Rattle.checking.specs.declared.items.Shape.{Shape}
+use Rattle.fields.proofs.Chain.{step-holds}
 use Rattle.fields.specs.Steps.{Next}
 use Rattle.fields.specs.declared.steps.Step.{Step}
 use Rattle.fields.specs.declared.steps.Step.the-variants as Stp
@@ -26,9 +27,10 @@ use Rattle.layout.specs.Refusals.{LENGTH}
 use Rattle.layout.specs.Walk.{upTo, must, checks, _>>_, ends, piece}
 use Rattle.layout.specs.Writing.Tables.{flattenItem}
 use Rattle.layout.specs.declared.Refusal.{Refusal}
-use Rattle.laws.proofs.Base.Lists.{both-true, drop-take}
+use Rattle.laws.proofs.Base.Lists.{last-of}
 use Rattle.laws.proofs.Base.Readers.{Sized}
 use Rattle.laws.proofs.Base.Walks.{given-inj, checks-case, checks-append}
+use Rattle.laws.proofs.Encoding.Kinds.{good-is, closing-under}
 
 never : false ≡ true → ⊥
 never e = let z : _≡_ {A = ℕ} 0 1 = cc in omega arith
@@ -74,35 +76,6 @@ module _ (xs : List ℕ) (k : Shape) (s : Shaped xs k) where
       let f : isLong (kindIn xs) ≡ false = sym (ap (λ (z : Shape). z .long) (s .is)) ∙ e in
       ap (λ (z : Shape). z .size) (s .is) ∙ sym (size-short (kindIn xs) (number 1 (drop 3 xs)) (number 4 (drop 4 xs)) f)
 
--- the closing zeros, as they stand in the item
-closed-is : (xs : List ℕ) (at size c used : ℕ) → used ≡ at + size → c ≤ size → used ≤ length xs
-    → zeros (drop (length (take size (drop at xs)) - c) (take size (drop at xs))) ≡ zeros (take c (drop (used - c) xs))
-closed-is xs at size c used e h l =
-    let n : length (take size (drop at xs)) ≡ size = length-take-le size (drop at xs) (omega (arith, length-drop at xs)) in
-    let d : size ≡ (size - c) + c = omega arith in
-    let i : used - c ≡ at + (size - c) = omega arith in
-    let t : take size (drop at xs) ≡ take ((size - c) + c) (drop at xs) = ap (λ k. take k (drop at xs)) d in
-    let j : drop (size - c) (drop at xs) ≡ drop (used - c) xs = drop-drop (size - c) at xs ∙ ap (λ k. drop k xs) (sym i) in
-    let u : drop (size - c) (take size (drop at xs)) ≡ take c (drop (used - c) xs) =
-    ap (λ l. drop (size - c) l) t ∙ drop-take (size - c) c (drop at xs) ∙ ap (λ l. take c l) j in
-    rw n (ap zeros u)
-
-good-is : (k : Kind) (n : ℕ) → goodLength k n ≡ (not (isLong k) || (eqb (n % 2) 0 && leb 2 n))
-good-is narrow n = refl
-good-is wide n = refl
-good-is long n = refl
-good-is (integer m) n = refl
-good-is double n = refl
-good-is unknown n = refl
-
-closing-under : (k : Kind) (scale stated : ℕ) → goodLength k (valueLength k scale stated) ≡ true → closing k ≤ valueLength k scale stated
-closing-under narrow scale stated h = omega arith
-closing-under wide scale stated h = omega arith
-closing-under long scale stated h = leb-true 2 stated (both-true (eqb (stated % 2) 0) (leb 2 stated) h .1)
-closing-under (integer n) scale stated h = omega arith
-closing-under double scale stated h = omega arith
-closing-under unknown scale stated h = omega arith
-
 module _ (y p : ℕ) (xs : List ℕ) (k : Shape) (s : Shaped xs k) (size : ℕ) (e : size ≡ valueSize xs) where
   at-is : k .at ≡ valueAt (kindIn xs)
   at-is = ap (λ (z : Shape). z .at) (s .is)
@@ -122,7 +95,7 @@ module _ (y p : ℕ) (xs : List ℕ) (k : Shape) (s : Shaped xs k) (size : ℕ) 
 
   module _ (h : tests ≡ true) where
     pub value-closes : k .closing ≤ size
-    value-closes = rw (closing-is, e) (closing-under (kindIn xs) (number 1 (drop 3 xs)) (number 4 (drop 4 xs)) (length-is ∙ h))
+    value-closes = rw (closing-is, e) (closing-under (kindIn xs) (number 1 (drop 3 xs)) (number 4 (drop 4 xs)) (valueSize xs) refl (length-is ∙ h))
 
     pub value-short : length xs < k .at + size → Refused (refusal 10 p 0) ≡ shown (tally flattenItem) y (valueWalk p xs)
     unfolding valueWalk valueChecks
@@ -137,7 +110,7 @@ module _ (y p : ℕ) (xs : List ℕ) (k : Shape) (s : Shaped xs k) (size : ℕ) 
       shut : isClosed (kindIn xs) (itemIn xs .value) ≡ zeros (take (k .closing) (drop (k .at + size - k .closing) xs))
       shut =
           rw (closing-is, at-is, e)
-          (closed-is xs (valueAt (kindIn xs)) (valueSize xs) (closing (kindIn xs)) (valueAt (kindIn xs) + valueSize xs) refl (omega (arith, value-closes, closing-is, e)) (omega (arith, at-is, e)))
+          (ap zeros (last-of xs (valueAt (kindIn xs)) (valueSize xs) (closing (kindIn xs)) (omega (arith, value-closes, closing-is, e)) (omega (arith, at-is, e))))
 
       pub value-open : zeros (take (k .closing) (drop (k .at + size - k .closing) xs)) ≡ false
           → Refused (refusal 6 (p + (k .at + size - k .closing)) 0) ≡ shown (tally flattenItem) y (valueWalk p xs)

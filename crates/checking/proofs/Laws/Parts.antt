@@ -2,7 +2,7 @@
 use mathlib.Core.Bool.{Bool, true, false, cond, _||_}
 use mathlib.Core.List.{List, [], _∷_}
 use mathlib.Core.Path.{_≡_, refl, sym, ap, _∙_}
-use Prim.Native.Nat.{ℕ, _+_, _-_, _*_, _^_, _≤_, _<_}
+use Prim.Native.Nat.{ℕ, _+_, _-_, _*_, _≤_, _<_}
 use borrow.Author.Tests.{le-leb, lt-leb}
 use lib.Dec.{eqb}
 use lib.ListN.{length, take, drop}
@@ -21,10 +21,6 @@ use Rattle.layout.specs.Shared.Widths.{planar, height, widths, pointSize, point
 use Rattle.layout.specs.Sheet.{Reference}
 use Rattle.layout.specs.Writing.Tables.{flattenPart}
 use Rattle.laws.proofs.Base.Numbers.{length-numbers, length-repeat}
-
--- a count of points times what a point has
-pub product-fits : (a b : ℕ) → a < 2 ^ 32 → b ≤ 24 → a * b < 2 ^ 64
-product-fits a b h l = omega (arith, mul-le-mul-left a l)
 
 length-widths : (a b : ℕ) (three : Bool) (c : ℕ) → length (a ∷ b ∷ cond three (c ∷ []) []) ≡ cond three 3 2
 length-widths a b true c = refl

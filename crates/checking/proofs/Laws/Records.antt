@@ -10,13 +10,14 @@ use lib.Seq.{drop-drop, length-take-le}
 use native.Mathlib.Nat.{add-zero}
 use native.Mathlib.Omega.{arith}
 use Rattle.checking.proofs.Laws.Shown.{next, plus, shown-bind, shown-plus}
-use Rattle.checking.proofs.Laws.Steps.{step-on, step-stop, step-holds}
+use Rattle.checking.proofs.Laws.Steps.{step-on, step-stop}
 use Rattle.checking.specs.Records.{shortOf, referenceOf, lengthRules, countRules, headerRules, Passed, restWalk, semanticsOf}
 use Rattle.checking.specs.Tally.{add, tally, tallyOf, metricTable, shown}
 use Rattle.checking.specs.declared.headers.Header.{Header}
 use Rattle.checking.specs.declared.tally.Counted.{Counted}
 use Rattle.checking.specs.declared.tally.Counted.the-variants.{Fine, Refused}
 use Rattle.checking.specs.declared.tally.Tally.{Tally}
+use Rattle.fields.proofs.Chain.{step-holds}
 use Rattle.fields.specs.Steps.{Next}
 use Rattle.fields.specs.declared.steps.Step.{Step}
 use Rattle.fields.specs.declared.steps.Step.the-variants as Stp

@@ -1,11 +1,11 @@
 -- The ways out of a sheet, over plain variables.
 use mathlib.Core.Bool.{true, false}
-use mathlib.Core.List.{List, [], _∷_, _++_}
+use mathlib.Core.List.{List, [], _++_}
 use mathlib.Core.Path.{_≡_, refl, sym, ap, _∙_}
-use Prim.Native.Nat.{ℕ, suc, _+_, _-_, _^_, _≤_, _<_}
+use Prim.Native.Nat.{ℕ, _+_, _-_, _^_, _≤_, _<_}
 use borrow.Author.Tests.{le-leb, lt-leb}
 use lib.Dec.{leb}
-use lib.ListN.{length, take, drop, getD, length-drop}
+use lib.ListN.{length, take, drop, length-drop}
 use native.Mathlib.Nat.{add-zero}
 use native.Mathlib.Omega.{arith}
 use Rattle.checking.specs.Sheets.{headRules, Headed}
@@ -13,8 +13,9 @@ use Rattle.checking.specs.Tally.{tally, tallyOf, countedOf, shown}
 use Rattle.checking.specs.declared.tally.Counted.{Counted}
 use Rattle.checking.specs.declared.tally.Counted.the-variants.{Fine, Refused}
 use Rattle.checking.specs.declared.tally.Tally.{Tally}
+use Rattle.fields.proofs.Chain.{refusedBy, step-given, step-stop}
 use Rattle.fields.proofs.Laws.{rest-is}
-use Rattle.fields.specs.Steps.{stepIn, stepOf, afterOf, Next}
+use Rattle.fields.specs.Steps.{Next}
 use Rattle.fields.specs.declared.steps.Step.{Step}
 use Rattle.fields.specs.declared.steps.Step.the-variants as Stp
 use Rattle.layout.specs.Answers.Enums.{refusal, checkedOf}
@@ -40,9 +41,6 @@ use Rattle.laws.proofs.Reading.Sheets.{sheet-sound}
 
 -- what an answer is, by what the code made of it
 
-abbrev refusedBy : {A : Type 0} → Refusal → Answer A
-refusedBy q = refused (q .number) (q .place) (q .year)
-
 counted-stop : {A : Type 0} (f : A → Tally) (v : Answer A) (q : Refusal) → countedOf f v ≡ Refused q → v ≡ refusedBy q
 counted-stop f (given a) q e = let z : _≡_ {A = ℕ} 0 1 = cc in absurd (omega arith)
 counted-stop f (refused n p y) q e = let i : refusal n p y ≡ q = cc in rw (← i) refl
@@ -50,19 +48,6 @@ counted-stop f (refused n p y) q e = let i : refusal n p y ≡ q = cc in rw (←
 counted-fine : {A : Type 0} (f : A → Tally) (v : Answer A) (z : Tally) → countedOf f v ≡ Fine z → (a : A) × (v ≡ given a) × (f a ≡ z)
 counted-fine f (given a) z e = (a, refl, cc)
 counted-fine f (refused n p y) z e = let w : _≡_ {A = ℕ} 0 1 = cc in absurd (omega arith)
-
-step-given : (v : Answer (Unit {0})) → stepIn v ≡ Stp.Fine → v ≡ given tt
-step-given (given a) e = refl
-step-given (refused n p y) e = let z : _≡_ {A = ℕ} 0 1 = cc in absurd (omega arith)
-
-step-refused : (v : Answer (Unit {0})) (q : Refusal) → stepIn v ≡ Stp.Refused q → v ≡ refusedBy q
-step-refused (given a) q e = let z : _≡_ {A = ℕ} 0 1 = cc in absurd (omega arith)
-step-refused (refused n p y) q e = let i : refusal n p y ≡ q = cc in rw (← i) refl
-
--- all bytes, from what the code knows of a slice
-pub all-bytes : (s : List ℕ) → ((i : ℕ) → getD s i 0 < 256) → Bytes s
-all-bytes [] g = tt
-all-bytes (x ∷ s) g = (g 0, all-bytes s (λ i. g (suc i)))
 
 -- the sum that an accepted sheet states is its own
 sum-is : (y : ℕ) (s : List ℕ) → Bytes s → (t : Sheet) → answer (upTo y) (sheetWalk s) ≡ given t → number 4 (drop 12 s) ≡ sheetSum t
@@ -97,18 +82,12 @@ module _ (s : List ℕ) (l : length s ≤ limit) (m : 452 ≤ length s) where
       ∙ ap (λ w. checks 0 C >> w) (checks-append 0 D E (tail s))))))
 
   module _ (y : ℕ) (r : Step) (n : Next Stp.Fine y 0 (headRules s) r) where
-    step-is : stepIn (answer (upTo y) (checks 0 (headRules s))) ≡ r
-    unfolding stepOf afterOf
-    step-is = sym (n .is)
-
     pub head-on : r ≡ Stp.Fine → Headed s y
-    head-on e = record { short = l; long = m; head = step-given (answer (upTo y) (checks 0 (headRules s))) (step-is ∙ e) }
+    head-on e = record { short = l; long = m; head = step-given y 0 (headRules s) r n e }
 
     pub head-stop : (q : Refusal) → r ≡ Stp.Refused q → Check.Refused q ≡ checkedOf (answer (upTo y) (sheetWalk s))
     unfolding checkedOf
-    head-stop q e =
-        let a : answer (upTo y) (sheetWalk s) ≡ refusedBy q = ap (answer (upTo y)) halves ∙ bind-refused (upTo y) (checks 0 (headRules s)) (λ _. tail s) _ _ _ (step-refused _ q (step-is ∙ e)) in
-        sym (ap checkedOf a)
+    head-stop q e = sym (ap checkedOf (ap (answer (upTo y)) halves ∙ step-stop y 0 (headRules s) r n (tail s) q e))
 
 module _ (y : ℕ) (s : List ℕ) where
   pub sheet-long : limit < length s → Check.Refused (refusal 1 0 0) ≡ checkedOf (answer (upTo y) (sheetWalk s))
@@ -134,11 +113,11 @@ module _ (y : ℕ) (s : List ℕ) (H : Headed s y) (n : ℕ) (c : n ≡ number 4
       → Check.Refused q ≡ checkedOf (answer (upTo y) (sheetWalk s))
   unfolding checkedOf
   whole-refused q e =
-      let a : answer (upTo y) (sheetWalk s) ≡ refusedBy q = on ∙ bind-refused (upTo y) (whole LEFT-OVER (times (number 4 (drop 440 s)) recordWalk) 452 (drop 452 s)) _ _ _ _ e in
+      let a : answer (upTo y) (sheetWalk s) ≡ refusedBy q = on ∙ bind-refused (upTo y) (whole LEFT-OVER (times (number 4 (drop 440 s)) recordWalk) 452 (drop 452 s)) _ e in
       sym (ap checkedOf a)
 
   pub sheet-stop : (q : Refusal) → k ≡ Refused q → Check.Refused q ≡ checkedOf (answer (upTo y) (sheetWalk s))
-  sheet-stop q e = whole-refused q (bind-refused (upTo y) records _ _ _ _ (counted-stop (tally (joined flattenRecord)) (answer (upTo y) records) q (sym here ∙ e)))
+  sheet-stop q e = whole-refused q (bind-refused (upTo y) records _ (counted-stop (tally (joined flattenRecord)) (answer (upTo y) records) q (sym here ∙ e)))
 
   module _ (z : Tally) (e : k ≡ Fine z) where
     pub sheet-left : z .used < length s - 452 → Check.Refused (refusal 13 (452 + z .used) 0) ≡ checkedOf (answer (upTo y) (sheetWalk s))

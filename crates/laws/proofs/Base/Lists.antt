@@ -2,11 +2,12 @@
 use mathlib.Core.Bool.{Bool, true, false, _&&_, cond}
 use mathlib.Core.List.{List, [], _∷_, _++_}
 use mathlib.Core.Logic.{_↔_}
-use mathlib.Core.Path.{_≡_, refl}
-use Prim.Native.Nat.{ℕ, zero, suc, _+_, _<_}
+use mathlib.Core.Path.{_≡_, refl, sym, ap, _∙_}
+use Prim.Native.Nat.{ℕ, zero, suc, _+_, _-_, _≤_, _<_}
 use native.Mathlib.Nat.{zero-add, suc-add}
 use native.Mathlib.Omega.{arith}
-use lib.ListN.{length, take, drop}
+use lib.ListN.{length, take, drop, length-drop}
+use lib.Seq.{drop-drop, length-take-le}
 use Rattle.layout.specs.Bytes.{All, flat, some}
 
 -- values one after another, as a row or a list of checks has them
@@ -35,6 +36,17 @@ drop-take zero b l = simp zero-add
 drop-take (suc a) zero [] = rw (suc-add a 0) refl
 drop-take (suc a) (suc b) [] = rw (suc-add a (suc b)) refl
 drop-take (suc a) b (x ∷ l) = rw (suc-add a b) (drop-take a b l)
+
+-- the last c of a part
+pub last-of : (xs : List ℕ) (at size c : ℕ) → c ≤ size → at + size ≤ length xs
+    → drop (length (take size (drop at xs)) - c) (take size (drop at xs)) ≡ take c (drop (at + size - c) xs)
+last-of xs at size c h l =
+    let n : length (take size (drop at xs)) ≡ size = length-take-le size (drop at xs) (omega (arith, length-drop at xs)) in
+    let d : size ≡ (size - c) + c = omega arith in
+    let i : at + size - c ≡ at + (size - c) = omega arith in
+    let t : take size (drop at xs) ≡ take ((size - c) + c) (drop at xs) = ap (λ k. take k (drop at xs)) d in
+    let j : drop (size - c) (drop at xs) ≡ drop (at + size - c) xs = drop-drop (size - c) at xs ∙ ap (λ k. drop k xs) (sym i) in
+    rw n (ap (λ l. drop (size - c) l) t ∙ drop-take (size - c) c (drop at xs) ∙ ap (λ l. take c l) j)
 
 -- there are bytes exactly where there are pieces, if every piece has bytes
 pub some-flat : {A : Type 0} (E : A → List ℕ) → ((a : A) → 0 < length (E a)) → (l : List A) → some (flat E l) ≡ some l

@@ -98,3 +98,8 @@ number-drop n zero [] = rw (number-nil n)
 number-drop n zero (x ∷ s) = refl
 number-drop n (suc p) [] = rw (number-nil n)
 number-drop n (suc p) (x ∷ s) = number-drop n p s
+
+-- all bytes, from what the code knows of a slice
+pub all-bytes : (s : List ℕ) → ((i : ℕ) → getD s i 0 < 256) → Bytes s
+all-bytes [] g = tt
+all-bytes (x ∷ s) g = (g 0, all-bytes s (λ i. g (suc i)))

@@ -93,8 +93,12 @@ answer-bind al (meets p z w) f = step (al z) (answer-bind al w f)
     step true e = e
     step false e = refl
 
-pub bind-refused : {A B : Type 0} (al : ℕ → Bool) (w : Walk A) (f : A → Walk B) (n p z : ℕ) → answer al w ≡ refused n p z → answer al (w >>= f) ≡ refused n p z
-bind-refused al w f n p z e = answer-bind al w f ∙ ap (λ v. andThen v (λ a. answer al (f a))) e
+pub bind-refused : {A B : Type 0} {n p z : ℕ} (al : ℕ → Bool) (w : Walk A) (f : A → Walk B) → answer al w ≡ refused n p z → answer al (w >>= f) ≡ refused n p z
+bind-refused al w f e = answer-bind al w f ∙ ap (λ v. andThen v (λ a. answer al (f a))) e
+
+pub then-back : {A B : Type 0} (w : Answer A) (f : A → Answer B) (b : B) → andThen w f ≡ given b → (a : A) × (w ≡ given a) × (f a ≡ given b)
+then-back (given a) f b e = (a, refl, e)
+then-back (refused n p z) f b e = let z : _≡_ {A = ℕ} 0 1 = cc in absurd (omega arith)
 
 -- what a setting allows
 pub allowed-append : (al : ℕ → Bool) (s t : List ℕ) → Allowed al (s ++ t) ↔ (Allowed al s × Allowed al t)

@@ -13,7 +13,7 @@ use Rattle.layout.specs.Shared.Types.{kindOf, isClosed}
 use Rattle.layout.specs.Sheet.{Item}
 use Rattle.layout.specs.Walk.{given}
 use Rattle.layout.specs.Writing.Items.{ItemRow, itemRowIn, itemRules, takeItem}
-use Rattle.layout.specs.Writing.Tables.{table, join, taken, flattenItem}
+use Rattle.layout.specs.Writing.Tables.{table, join, joined, taken, flattenItem}
 use Rattle.laws.proofs.Base.Lists.{_&_, all-take}
 use Rattle.laws.proofs.Base.Walks.{given-inj, checks-case, checks-on}
 use Rattle.laws.proofs.Writing.Takes.{Takes, table-path}
@@ -65,6 +65,12 @@ item-takes al = record {
       & lt-ltb _ _ (f .short) & eq-eqb _ _ (f .sized) & f .measured & le-leb _ _ room & shut & tt) y
       ∙ (λ j. given (taken (item j) (table (rest .numbers) (rest .elements) (left j))));
 }
+
+-- no item has elements
+pub items-flat : (l : List Item) → joined flattenItem l .elements ≡ []
+unfolding flattenItem
+items-flat [] = refl
+items-flat (i ∷ l) = items-flat l
 
 -- an item has four numbers
 pub item-numbers : (a : Item) → length (flattenItem a .numbers) ≡ 4

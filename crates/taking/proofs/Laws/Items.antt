@@ -2,14 +2,14 @@
 use mathlib.Core.Bool.{Bool, true, false, cond, not, _||_, _&&_}
 use mathlib.Core.List.{List, [], _∷_}
 use mathlib.Core.Path.{_≡_, refl, sym, ap, _∙_}
-use Prim.Native.Nat.{ℕ, zero, suc, _+_, _-_, _%_, _≤_, _<_}
+use Prim.Native.Nat.{ℕ, _+_, _-_, _%_, _≤_, _<_}
 use borrow.Author.Tests.{leb-true, ltb-true, eqb-true, ne-eqb}
 use lib.Dec.{eqb, leb, ltb}
 use lib.ListN.{length, take, drop, length-drop}
-use lib.Seq.{drop-drop, length-take-le}
-use native.Mathlib.Nat.{add-zero, zero-add, suc-add}
+use lib.Seq.{length-take-le}
+use native.Mathlib.Nat.{add-zero}
 use native.Mathlib.Omega.{arith}
-use Rattle.fields.proofs.Chain.{as-checks}
+use Rattle.fields.proofs.Chain.{as-checks, refusedBy, step-holds, step-on, step-stop, then-on, then-stop}
 use Rattle.fields.specs.Steps.{Next}
 use Rattle.fields.specs.declared.steps.Step.{Step}
 use Rattle.fields.specs.declared.steps.Step.the-variants as Stp
@@ -17,16 +17,16 @@ use Rattle.layout.specs.Bytes.{zeros}
 use Rattle.layout.specs.Layout.Fine.{FineItem}
 use Rattle.layout.specs.Layout.Sizes.{itemBytes}
 use Rattle.layout.specs.Layout.Uses.{itemYears}
-use Rattle.layout.specs.Shared.Types.{Kind, narrow, wide, long, integer, double, unknown, kindOf, isLong, lengthBytes, valueLength, goodLength, closing, isClosed}
+use Rattle.layout.specs.Shared.Types.{narrow, wide, integer, double, unknown, kindOf, lengthBytes, valueLength, closing, isClosed}
 use Rattle.layout.specs.Sheet.{Item, Table}
 use Rattle.layout.specs.Walk.{Walk, Check, must, answer, upTo, holds, checks, _>>_, ends}
 use Rattle.layout.specs.Writing.Items.{ItemRow, itemRowIn, itemRules, takeItem}
 use Rattle.layout.specs.Writing.Tables.{table, Taken, taken, flattenItem}
 use Rattle.layout.specs.declared.Refusal.{Refusal}
-use Rattle.laws.proofs.Base.Lists.{both-true}
+use Rattle.laws.proofs.Base.Lists.{last-of}
+use Rattle.laws.proofs.Encoding.Kinds.{good-is, closing-under}
 use Rattle.laws.proofs.Writing.Items.{item-takes, item-numbers}
 use Rattle.taking.proofs.Laws.Moves.{Went, went, stopped, number-after}
-use Rattle.taking.proofs.Laws.Steps.{refusedBy, step-holds, step-on, step-stop, then-on, then-stop}
 use Rattle.taking.specs.Items.{rowOf, valueOf, lengthOf, sizeRules, valueRules}
 use Rattle.taking.specs.Places.{capped, here, movedOf, At}
 use Rattle.taking.specs.declared.items.ItemNumbers.{ItemNumbers}
@@ -34,14 +34,6 @@ use Rattle.taking.specs.declared.items.Value.{Value}
 use Rattle.taking.specs.declared.places.Moved.{Moved}
 use Rattle.taking.specs.declared.places.Moved.the-variants.{Fine, Refused}
 use Rattle.taking.specs.declared.places.Places.{Places}
-
-pub good-is : (k : Kind) (n : ℕ) → goodLength k n ≡ (not (isLong k) || (eqb (n % 2) 0 && leb 2 n))
-good-is narrow n = refl
-good-is wide n = refl
-good-is long n = refl
-good-is (integer m) n = refl
-good-is double n = refl
-good-is unknown n = refl
 
 -- only a value of type 128 has its length before it
 pub long-bytes : (t : ℕ) → t ≡ 128 → lengthBytes (kindOf t) ≡ 4
@@ -72,15 +64,6 @@ sizes-are a k left e =
     ∙ ap (λ b. must (ltb (a .size) 4294967296) 14 3 ∷ must (eqb (a .size) (valueLength (kindOf (a .t)) (a .scale) (a .size))) 14 3 ∷ must b 12 3 ∷ must (leb (a .size) left) 14 3 ∷ [])
     (sym (good-is (kindOf (a .t)) (a .size)))
 
--- a value of the right length has room for its closing zeros
-closing-under : (k : Kind) (scale size : ℕ) → size ≡ valueLength k scale size → goodLength k size ≡ true → closing k ≤ size
-closing-under narrow scale size e h = omega arith
-closing-under wide scale size e h = omega arith
-closing-under long scale size e h = leb-true 2 size (both-true (eqb (size % 2) 0) (leb 2 size) h .1)
-closing-under (integer m) scale size e h = omega arith
-closing-under double scale size e h = omega arith
-closing-under unknown scale size e h = omega arith
-
 pub record Sized (a : ItemNumbers) (left : ℕ) : Type 0 where
   pub small : a .size < 4294967296
   pub closes : closing (kindOf (a .t)) ≤ a .size
@@ -89,28 +72,9 @@ pub record Sized (a : ItemNumbers) (left : ℕ) : Type 0 where
 pub sized : (a : ItemNumbers) (left : ℕ) → holds (sizeRules a left) → Sized a left
 sized a left c = record {
   small = ltb-true _ _ (c .0);
-  closes = closing-under (kindOf (a .t)) (a .scale) (a .size) (eqb-true _ _ (c .1 .0)) (c .1 .1 .0);
+  closes = closing-under (kindOf (a .t)) (a .scale) (a .size) (a .size) (eqb-true _ _ (c .1 .0)) (c .1 .1 .0);
   room = leb-true _ _ (c .1 .1 .1 .0);
 }
-
--- the closing zeros of a value, as they stand in the pool
-drop-take : (a b : ℕ) (l : List ℕ) → drop a (take (a + b) l) ≡ take b (drop a l)
-drop-take zero b l = simp zero-add
-drop-take (suc a) zero [] = rw (suc-add a 0) refl
-drop-take (suc a) (suc b) [] = rw (suc-add a (suc b)) refl
-drop-take (suc a) b (x ∷ l) = rw (suc-add a b) (drop-take a b l)
-
-pub closed-is : (xs : List ℕ) (at size c : ℕ) → c ≤ size → at + size ≤ length xs
-    → zeros (take c (drop (at + size - c) xs)) ≡ zeros (drop (length (take size (drop at xs)) - c) (take size (drop at xs)))
-closed-is xs at size c h l =
-    let n : length (take size (drop at xs)) ≡ size = length-take-le size (drop at xs) (omega (arith, length-drop at xs)) in
-    let d : size ≡ (size - c) + c = omega arith in
-    let i : at + size - c ≡ at + (size - c) = omega arith in
-    let t : take size (drop at xs) ≡ take ((size - c) + c) (drop at xs) = ap (λ k. take k (drop at xs)) d in
-    let j : drop (size - c) (drop at xs) ≡ drop (at + size - c) xs = drop-drop (size - c) at xs ∙ ap (λ k. drop k xs) (sym i) in
-    let u : drop (size - c) (take size (drop at xs)) ≡ take c (drop (at + size - c) xs) =
-    ap (λ l. drop (size - c) l) t ∙ drop-take (size - c) c (drop at xs) ∙ ap (λ l. take c l) j in
-    rw n (sym (ap zeros u))
 
 -- the two ways out of the checks on a value, whose pool starts at a place of the bytes xs
 pub value-sized : (a : ItemNumbers) (left p : ℕ) (r : Step) → ((y : ℕ) → Next Stp.Fine y p (sizeRules a left) r) → r ≡ Stp.Fine → Sized a left
@@ -125,7 +89,7 @@ module _ (y : ℕ) (xs : List ℕ) (at : ℕ) (a : ItemNumbers) (p : ℕ) (r : S
   value-closed l e c k part g b z s m =
       let w = sized a (length xs - at) (step-holds y p _ r n e) in
       let h : b ≡ isClosed (kindOf (a .t)) (take (a .size) (drop at xs)) =
-      z ∙ ap zeros g ∙ closed-is xs at (a .size) c (omega (arith, w)) (omega (arith, w))
+      z ∙ ap zeros g ∙ ap zeros (sym (last-of xs at (a .size) c (omega (arith, w)) (omega (arith, w))))
       ∙ ap (λ c. zeros (drop (length (take (a .size) (drop at xs)) - c) (take (a .size) (drop at xs)))) k in
       then-on y p (sizeRules a (length (drop at xs))) r here-sizes e _ s (as-checks (ap (λ b. must b 6 3 ∷ []) h) m)
 

@@ -8,6 +8,7 @@ use lib.Dec.{leb}
 use lib.ListN.{length, drop, length-append, length-drop}
 use native.Mathlib.Nat.{add-zero, add-assoc}
 use native.Mathlib.Omega.{arith}
+use Rattle.fields.proofs.Chain.{refusedBy}
 use Rattle.layout.specs.Answers.Calls.{andThen}
 use Rattle.layout.specs.Answers.Enums.{refusal}
 use Rattle.layout.specs.Bytes.{Bytes}
@@ -18,10 +19,9 @@ use Rattle.layout.specs.Walk.{Answer, given, refused, answer}
 use Rattle.layout.specs.Writing.Tables.{table, join, joined, Taken, taken, Taker, many}
 use Rattle.layout.specs.declared.Refusal.{Refusal}
 use Rattle.laws.proofs.Base.Lists.{all-drop}
-use Rattle.laws.proofs.Base.Walks.{answer-bind, bind-on}
+use Rattle.laws.proofs.Base.Walks.{answer-bind, bind-on, bind-refused}
 use Rattle.laws.proofs.Writing.Takes.{Takes}
 use Rattle.laws.proofs.Writing.Turns.{rest-at}
-use Rattle.taking.proofs.Laws.Steps.{refusedBy, bind-refused}
 use Rattle.taking.specs.Places.{capped, here, moved, movedOf, At}
 use Rattle.taking.specs.declared.places.Moved.{Moved}
 use Rattle.taking.specs.declared.places.Moved.the-variants.{Fine, Refused}
@@ -157,7 +157,7 @@ module _ {A : Type 0} (al : ℕ → Bool) (k : ℕ) (r : Taker A) (F : A → Tab
   rest-done p h = ap Fine (moved-none p h)
 
   rest-stop : (n : ℕ) (p : Places) (q : Refusal) → answer al (r (p .number) (here t p)) ≡ refusedBy q → Rest (suc n) p ≡ Refused q
-  rest-stop n p q e = ap (movedOf (joined F) (sumBy B) p) (bind-refused al (r (p .number) (here t p)) _ q e)
+  rest-stop n p q e = ap (movedOf (joined F) (sumBy B) p) (bind-refused al (r (p .number) (here t p)) _ e)
 
   cons : (p q : Places) (a : A) → moved p (F a) (B a) ≡ q → (v : Answer (Taken (List A)))
       → movedOf (joined F) (sumBy B) p (andThen v (λ more. given (taken (a ∷ more .value) (more .left)))) ≡ movedOf (joined F) (sumBy B) q v

@@ -1,5 +1,5 @@
 -- The ways out of a part, over plain variables.
-use mathlib.Core.Bool.{Bool, true, false}
+use mathlib.Core.Bool.{Bool}
 use mathlib.Core.List.{List, [], _∷_, _++_}
 use mathlib.Core.Path.{_≡_, refl, sym, ap, _∙_}
 use Prim.Native.Nat.{ℕ, _+_, _-_, _*_, _≤_, _<_}
@@ -7,9 +7,10 @@ use borrow.Author.Tests.{leb-true, ltb-true}
 use lib.Dec.{leb}
 use lib.ListN.{length, getD, take, drop, length-drop}
 use lib.Seq.{length-take-le, getD-drop}
-use native.Mathlib.Nat.{add-zero, zero-add, mul-le-mul-left}
+use native.Mathlib.Nat.{add-zero, zero-add}
 use native.Mathlib.Omega.{arith}
-use Rattle.fields.proofs.Chain.{as-checks}
+use Rattle.fields.proofs.Chain.{as-checks, refusedBy, step-holds, step-on, step-stop, then-on, then-stop}
+use Rattle.fields.proofs.Widths.{widths-count}
 use Rattle.fields.specs.Shapes.{shapeOf, dimensions, widthsOf}
 use Rattle.fields.specs.Steps.{Next}
 use Rattle.fields.specs.declared.shapes.Shape.{Shape}
@@ -19,24 +20,19 @@ use Rattle.layout.specs.Bytes.{repeat}
 use Rattle.layout.specs.Layout.Fine.{FineSubobject}
 use Rattle.layout.specs.Layout.Sizes.{partBytes, subobjectBytes}
 use Rattle.layout.specs.Shared.Reference.{elementSize, floating, threeDimensions}
-use Rattle.layout.specs.Shared.Widths.{elementWidths}
 use Rattle.layout.specs.Sheet.{Part, Reference, Table}
 use Rattle.layout.specs.Walk.{Answer, given, refused, answer, upTo, Check, must, holds, checks, _>>_, ends}
 use Rattle.layout.specs.Writing.Parts.{fitAll, elementCount, elementRules, textRules, firstRules, laterRules, takePart}
 use Rattle.layout.specs.Writing.Tables.{table, Taken, taken, flattenPart}
 use Rattle.layout.specs.declared.Refusal.{Refusal}
+use Rattle.laws.proofs.Base.Walks.{checks-append}
 use Rattle.laws.proofs.Writing.Parts.{subobject-takes, part-numbers}
 use Rattle.taking.proofs.Laws.Moves.{Went, went, stopped, number-after}
-use Rattle.taking.proofs.Laws.Steps.{refusedBy, checks-append, step-holds, step-on, step-stop, then-on, then-stop}
 use Rattle.taking.specs.Parts.{elementsBy, poolsBy, bytesBy, headed, poolWalk}
 use Rattle.taking.specs.Places.{capped, here, movedOf, At}
 use Rattle.taking.specs.declared.places.Moved.{Moved}
 use Rattle.taking.specs.declared.places.Moved.the-variants.{Fine, Refused}
 use Rattle.taking.specs.declared.places.Places.{Places}
-
--- so many points of so many bytes
-pub product-fits : (points k : ℕ) → points < 4294967296 → k ≤ 24 → points * k < 103079215105
-product-fits points k h l = omega (arith, mul-le-mul-left points l)
 
 -- the elements that a place of the pool has to have, and whether they fit
 module _ (y : ℕ) (xs : List ℕ) (at : ℕ) (s : Shape) (points n p : ℕ) (k : n ≡ points * dimensions (s .three)) (r : Step)
@@ -54,18 +50,14 @@ module _ (y : ℕ) (xs : List ℕ) (at : ℕ) (s : Shape) (points n p : ℕ) (k 
   pub elements-stop : (q : Refusal) → r ≡ Stp.Refused q → Next Stp.Fine y p (elementsBy s points (drop at xs)) (Stp.Refused q)
   elements-stop q e = then-stop y p _ r enough q e (must (fitAll (repeat points (widthsOf s)) (drop at xs)) 14 0 ∷ [])
 
-dims : (size float three : Bool) → length (elementWidths size float three) ≡ dimensions three
-dims size float true = refl
-dims size float false = refl
-
 -- the checks on the pools are those of the definitions
 pools-are : (r : Reference) (points size : ℕ) (es pool : List ℕ)
     → poolsBy (shapeOf r) points size es pool ≡ elementRules r points es ++ textRules r size pool
 unfolding elementRules textRules
-pools-are r points size es pool = rw (dims (elementSize r) (floating r) (threeDimensions r)) refl
+pools-are r points size es pool = rw (widths-count (elementSize r) (floating r) (threeDimensions r)) refl
 
 count-is : (r : Reference) (points : ℕ) → elementCount r points ≡ points * dimensions (threeDimensions r)
-count-is r points = ap (λ k. points * k) (dims (elementSize r) (floating r) (threeDimensions r))
+count-is r points = ap (λ k. points * k) (widths-count (elementSize r) (floating r) (threeDimensions r))
 
 abbrev poolsWith : Reference → ℕ → ℕ → Table → Taken Part
 poolsWith r points size t =

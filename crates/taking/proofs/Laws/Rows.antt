@@ -9,6 +9,7 @@ use lib.ListN.{length, getD, drop, length-drop}
 use lib.Seq.{drop-drop, getD-drop}
 use native.Mathlib.Nat.{add-zero}
 use native.Mathlib.Omega.{arith}
+use Rattle.fields.proofs.Chain.{step-holds, step-on, step-stop}
 use Rattle.fields.specs.Steps.{Next}
 use Rattle.fields.specs.declared.steps.Step.{Step}
 use Rattle.fields.specs.declared.steps.Step.the-variants as Stp
@@ -29,11 +30,10 @@ use Rattle.layout.specs.Writing.Tables.{table, join, joined, Taken, taken, many
 use Rattle.layout.specs.declared.Refusal.{Refusal}
 use Rattle.laws.proofs.Base.Chains.{four-then}
 use Rattle.laws.proofs.Base.Lists.{both-true}
-use Rattle.laws.proofs.Base.Walks.{answer-bind, bind-on}
+use Rattle.laws.proofs.Base.Walks.{answer-bind, bind-on, bind-refused, checks-append}
 use Rattle.laws.proofs.Writing.Parts.{FineFirst, firstYears, first-takes, subobject-takes, part-numbers}
 use Rattle.laws.proofs.Writing.Takes.{Takes, join-assoc, length-joined, many-takes}
 use Rattle.taking.proofs.Laws.Moves.{Went, went, stopped, number-after, moved-moved, moved-stop}
-use Rattle.taking.proofs.Laws.Steps.{bind-refused, checks-append, step-holds, step-on, step-stop}
 use Rattle.taking.specs.Places.{capped, here, moved, movedOf, At}
 use Rattle.taking.specs.Rows.{rowOf, rowChecks, insideTable, insideBytes}
 use Rattle.taking.specs.declared.places.Moved.{Moved}
@@ -116,7 +116,7 @@ module _ (y : ℕ) (ns es pool : List ℕ) (a : RecordRow) (p : Places) where
     first-stop q i =
         let s = stopped (upTo y) 2 (takePart ref (firstRules (a .word))) flattenPart (FineFirst ref (a .word)) firstYears
         (first-takes (upTo y) ref (a .word)) (partBytes ref) t p h room m e q i in
-        sym (ap (movedOf insideTable insideBytes p) (bind-refused (upTo y) (takePart ref (firstRules (a .word)) (p .number) (here t p)) _ q s))
+        sym (ap (movedOf insideTable insideBytes p) (bind-refused (upTo y) (takePart ref (firstRules (a .word)) (p .number) (here t p)) _ s))
 
   -- the first part's points stand in the table
   first-points : (q : Places) (w : First q) → getD ns (p .number) 0 ≡ w .value .points
@@ -176,7 +176,7 @@ module _ (y : ℕ) (ns es pool : List ℕ) (a : RecordRow) (p : Places) where
       pub laters-stop : (z : Refusal) → m ≡ Refused z → Refused z ≡ movedOf insideTable insideBytes p inside
       laters-stop z i =
           let s = moved-stop (joined flattenPart) (sumBy (subobjectBytes ref)) q (later marked q) z (sym e ∙ i) in
-          sym (ap (movedOf insideTable insideBytes p) (after-first ∙ bind-refused (upTo y) laters andItems z s))
+          sym (ap (movedOf insideTable insideBytes p) (after-first ∙ bind-refused (upTo y) laters andItems s))
 
     module _ (s : Places) (v : Later marked q s) where
       pub laters-next : 1 ≤ a .parts → s .number ≡ p .number + 2 * a .parts

@@ -5,13 +5,13 @@ use mathlib.Core.Path.{_≡_, refl, sym, ap, _∙_}
 use Prim.Native.Nat.{ℕ, suc, _+_, _≤_, _<_}
 use borrow.Author.Tests.{leb-true, leb-false}
 use lib.Dec.{leb}
-use lib.ListN.{length, getD, drop, length-drop, drop-of-length-le}
+use lib.ListN.{length, drop, length-drop, drop-of-length-le}
 use lib.Seq.{drop-cons}
 use native.Mathlib.Nat.{add-zero, zero-add, add-assoc}
 use native.Mathlib.Omega.{arith}
 use Rattle.layout.specs.Answers.Calls.{andThen}
 use Rattle.layout.specs.Answers.Enums.{refusal}
-use Rattle.layout.specs.Bytes.{Bytes, some}
+use Rattle.layout.specs.Bytes.{some}
 use Rattle.layout.specs.Layout.Sizes.{sumBy, recordBytes}
 use Rattle.layout.specs.Layout.Uses.{recordYears}
 use Rattle.layout.specs.Sheet.{Record, Table}
@@ -30,11 +30,6 @@ use Rattle.taking.specs.declared.places.Moved.the-variants as Mov
 use Rattle.taking.specs.declared.places.Places.{Places}
 use Rattle.taking.specs.declared.tables.Rows.{Rows}
 use Rattle.taking.specs.declared.tables.Rows.the-variants.{Fine, Refused}
-
--- all bytes, from what the code knows of a slice
-pub all-bytes : (s : List ℕ) → ((i : ℕ) → getD s i 0 < 256) → Bytes s
-all-bytes [] g = tt
-all-bytes (x ∷ s) g = (g 0, all-bytes s (λ i. g (suc i)))
 
 -- with so many records and bytes behind, what the rest adds to them
 abbrev pub restOf : ℕ → ℕ → Answer (List Record) → Rows

@@ -4,19 +4,20 @@ use native.Mathlib.Omega.{arith}
 use Prim.Native.Nat.{_*_}
 use Rattle.checking.specs.declared.tally.Counted.the-variants.{Fine, Refused}
 use Rattle.checking.proofs.Laws.Loop.{rest-within}
-use Rattle.checking.proofs.Laws.Parts.{product-fits, elements-within, part-short, part-then}
+use Rattle.checking.proofs.Laws.Parts.{elements-within, part-short, part-then}
 use borrow.Author.Needs.{needs}
 use Rattle.checking.proofs.parts.part.Statement.{statement}
 use Rattle.checking.proofs.parts.part.Tie as tie
+use Rattle.fields.proofs.Widths.{product-fits}
 
 mul-size : tie.Need-mul-size
-mul-size c = record { fits = product-fits _ _ (c .before .before .pre .1) (c .point-bytes .ensures .1) }
+mul-size c = record { fits = omega (arith, product-fits _ _ (c .before .before .pre .1) (c .point-bytes .ensures .1)) }
 
 returns : tie.Need-returns
 returns c = (λ y. part-short y _ _ _ _ _ (ap (λ k. c .before .before .before .args .count * k) (c .before .point-bytes .ensures .0)) (c .if1 .taken), tt)
 
 mul-elements : tie.Need-mul-elements
-mul-elements c = record { fits = product-fits _ _ (c .before .before .before .before .pre .1) (omega arith) }
+mul-elements c = record { fits = omega (arith, product-fits _ (c .dimensions .result) (c .before .before .before .before .pre .1) (omega arith)) }
 
 add-t26 : tie.Need-add-t26
 add-t26 c = let w = rest-within _ _ (now (c .before .before .before .before .before .before .before .before .before .before .args .xs)) (c .before .before .before .before .text-end .result) (c .before .before .before .before .text-end .ensures .1) _ (c .before .before .t .given .1) in omega (arith, w)

@@ -1,9 +1,10 @@
 use native.Mathlib.Omega.{arith}
 use denote.Ref.{now}
-use Rattle.checking.proofs.Laws.Sheets.{all-bytes, sheet-stop, sheet-left, sheet-fine}
+use Rattle.checking.proofs.Laws.Sheets.{sheet-stop, sheet-left, sheet-fine}
 use borrow.Author.Needs.{needs}
 use Rattle.checking.proofs.sheets.check_records.Statement.{statement}
 use Rattle.checking.proofs.sheets.check_records.Tie as tie
+use Rattle.laws.proofs.Base.Numbers.{all-bytes}
 
 returns : tie.Need-returns
 returns c = sheet-left (c .before .before .before .before .before .before .before .before .args .year) (now (c .before .before .before .before .before .before .before .before .args .s)) (c .before .before .before .before .before .before .before .before .pre) _ (c .before .before .before .before .before .before .u32-at .ensures) (c .before .before .before .before .records .result) (c .before .before .before .before .records .ensures .0) _ (c .before .before .t .given .1) (c .if1 .taken)

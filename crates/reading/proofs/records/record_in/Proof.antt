@@ -1,6 +1,6 @@
 use native.Mathlib.Omega.{arith}
 use denote.Ref.{now}
-use Rattle.checking.proofs.Laws.Sheets.{all-bytes}
+use Rattle.laws.proofs.Base.Numbers.{all-bytes}
 use Rattle.reading.proofs.One.{past, hops, place-within, rest-within, found, never}
 use borrow.Author.Needs.{needs}
 use Rattle.reading.proofs.records.record_in.Statement.{statement}

@@ -1,8 +1,7 @@
 use denote.Ref.{now}
 use lib.ListN.{drop}
 use borrow.Author.Tests.{ltb-true}
-use Rattle.fields.proofs.Chain.{as-checks}
-use Rattle.taking.proofs.Laws.Steps.{step-holds, then-on, then-stop}
+use Rattle.fields.proofs.Chain.{as-checks, step-holds, then-on, then-stop}
 use Rattle.taking.specs.Items.{item-rules, valueRules}
 use borrow.Author.Needs.{needs}
 use Rattle.taking.proofs.items.item_checks.Statement.{statement}

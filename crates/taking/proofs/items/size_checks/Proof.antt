@@ -3,8 +3,7 @@ use Prim.Native.Nat.{_%_}
 use lib.Dec.{eqb, leb, ltb}
 use Rattle.layout.specs.Refusals.{SEMANTIC, TABLE}
 use Rattle.layout.specs.Walk.{must}
-use Rattle.taking.proofs.Laws.Steps.{link}
-use Rattle.fields.proofs.Chain.{_▸_, as-checks}
+use Rattle.fields.proofs.Chain.{_▸_, as-checks, link}
 use Rattle.taking.proofs.Laws.Items.{sizes-are}
 use borrow.Author.Needs.{needs}
 use Rattle.taking.proofs.items.size_checks.Statement.{statement}

@@ -1,7 +1,7 @@
 use native.Mathlib.Omega.{arith}
 use native.Mathlib.Nat.{add-zero}
-use Rattle.taking.proofs.Laws.Parts.{product-fits}
 use borrow.Author.Needs.{needs}
+use Rattle.fields.proofs.Widths.{product-fits}
 use Rattle.taking.proofs.parts.part_length.Statement.{statement}
 use Rattle.taking.proofs.parts.part_length.Tie as tie
 

@@ -1,9 +1,8 @@
 use mathlib.Core.Path.{ap, sym}
 use denote.Ref.{now}
 use lib.ListN.{length, drop, length-drop}
-use Rattle.fields.proofs.Chain.{as-checks}
+use Rattle.fields.proofs.Chain.{as-checks, then-on, then-stop}
 use Rattle.taking.specs.Parts.{textBy}
-use Rattle.taking.proofs.Laws.Steps.{then-on, then-stop}
 use borrow.Author.Needs.{needs}
 use Rattle.taking.proofs.parts.pool_checks.Statement.{statement}
 use Rattle.taking.proofs.parts.pool_checks.Tie as tie

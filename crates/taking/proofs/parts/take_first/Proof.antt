@@ -1,9 +1,9 @@
 use native.Mathlib.Omega.{arith}
 use denote.Ref.{now}
+use Rattle.fields.proofs.Chain.{step-holds}
 use Rattle.layout.specs.Layout.Sizes.{partBytes}
 use Rattle.layout.specs.Shared.Row.{referenceOf}
 use Rattle.layout.specs.Writing.Parts.{firstRules}
-use Rattle.taking.proofs.Laws.Steps.{step-holds}
 use Rattle.taking.proofs.Laws.Parts.{part-stop, first-on, first-small}
 use borrow.Author.Needs.{needs}
 use Rattle.taking.proofs.parts.take_first.Statement.{statement}

@@ -1,10 +1,9 @@
 use mathlib.Core.Bool.{_&&_}
 use lib.Dec.{leb, ltb}
 use Rattle.layout.specs.Refusals.{TABLE}
-use Rattle.taking.proofs.Laws.Steps.{link}
 use mathlib.Core.List.{[], _∷_}
 use mathlib.Core.Path.{ap}
-use Rattle.fields.proofs.Chain.{_▸_, as-checks}
+use Rattle.fields.proofs.Chain.{_▸_, as-checks, link}
 use Rattle.layout.specs.Walk.{must}
 use Rattle.layout.specs.Writing.Rows.{countRules}
 use borrow.Author.Needs.{needs}

@@ -2,8 +2,9 @@ use Prim.Native.Nat.{_-_, _≤_}
 use native.Mathlib.Omega.{arith}
 use denote.Ref.{now}
 use lib.ListN.{length}
+use Rattle.laws.proofs.Base.Numbers.{all-bytes}
 use Rattle.taking.specs.Places.{At}
-use Rattle.taking.proofs.Laws.Tables.{all-bytes, Going, going-start, row-went, row-next, going-stop, going-turn, going-done, going-left}
+use Rattle.taking.proofs.Laws.Tables.{Going, going-start, row-went, row-next, going-stop, going-turn, going-done, going-left}
 use borrow.Author.Needs.{needs}
 use Rattle.taking.proofs.tables.take_table.Statement.{statement}
 use Rattle.taking.proofs.tables.take_table.Tie as tie

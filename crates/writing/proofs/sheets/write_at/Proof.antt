@@ -1,8 +1,8 @@
 use denote.Ref.{now}
 use native.Mathlib.Omega.{arith}
 use Rattle.heading.specs.Heads.{headOf}
+use Rattle.laws.proofs.Base.Numbers.{all-bytes}
 use Rattle.layout.specs.Writing.Tables.{table}
-use Rattle.taking.proofs.Laws.Tables.{all-bytes}
 use Rattle.writing.proofs.Answered.{refused-right, within, ready, short-right, written-right}
 use Rattle.writing.proofs.Measured.{typed-head}
 use borrow.Author.Needs.{needs}
