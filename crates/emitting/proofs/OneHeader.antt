@@ -1,7 +1,7 @@
 -- The header of a record in pass 2, over plain variables: what the code asks and what it has done.
 use mathlib.Core.List.{List, _++_}
 use mathlib.Core.Path.{_≡_, refl, ap, sym, _∙_}
-use Prim.Native.Nat.{ℕ, _+_, _-_, _/_, _%_, _≤_, _<_, _^_}
+use Prim.Native.Nat.{ℕ, _+_, _-_, _≤_, _<_, _^_}
 use borrow.Author.Tests.{le-leb, lt-leb}
 use lib.ListN.{drop, getD}
 use lib.Seq.{sets, getD-drop}
@@ -10,6 +10,7 @@ use Rattle.emitting.specs.Records.{lengthsOf, namesOf, marksOf, countsOf
 use Rattle.layout.specs.Bytes.{bytes}
 use Rattle.layout.specs.Shared.Mark.{pointsOf}
 use Rattle.layout.specs.Shared.Row
+use Rattle.layout.specs.Sheet.{Reference}
 use Rattle.emitting.proofs.Moves.{sets-twice}
 
 -- a row's numbers as the code reads them
@@ -54,20 +55,19 @@ module _ (ns : List ℕ) (at : ℕ) where
       let z = bytes 2 (getD ns (at + 2) 0) in
       sets-twice o₀ o₂ o₃ w (x ++ y) z (sets-twice o₀ o₁ o₂ w x y e f) g ∙ rw (nth-first ns at, nth-at ns at 1, nth-at ns at 2) refl
 
-  pub marks-wrote : (o₀ o₁ o₂ o₃ o₄ o₅ : List ℕ) (w : ℕ) → o₁ ≡ sets o₀ w (bytes 1 (getD ns (at + 3) 0 % 256)) → o₂ ≡ sets o₁ (w + 1) (bytes 1 (getD ns (at + 3) 0 / 256 % 256))
-      → o₃ ≡ sets o₂ (w + 2) (bytes 1 (getD ns (at + 3) 0 / 65536 % 256)) → o₄ ≡ sets o₃ (w + 3) (bytes 1 (getD ns (at + 4) 0))
+  pub marks-wrote : (o₀ o₁ o₂ o₃ o₄ o₅ : List ℕ) (w : ℕ) (r : Reference) → r ≡ Row.referenceOf (getD ns (at + 3) 0)
+      → o₁ ≡ sets o₀ w (bytes 1 (r .byte20)) → o₂ ≡ sets o₁ (w + 1) (bytes 1 (r .byte21)) → o₃ ≡ sets o₂ (w + 2) (bytes 1 (r .byte22)) → o₄ ≡ sets o₃ (w + 3) (bytes 1 (getD ns (at + 4) 0))
       → o₅ ≡ sets o₄ (w + 4) (bytes 4 (getD ns (at + 5) 0)) → o₅ ≡ sets o₀ w (marksOf (drop at ns))
   unfolding marksOf
-  marks-wrote o₀ o₁ o₂ o₃ o₄ o₅ w e f g h k =
-      let n = getD ns (at + 3) 0 in
-      let a = bytes 1 (n % 256) in
-      let b = bytes 1 (n / 256 % 256) in
-      let c = bytes 1 (n / 65536 % 256) in
+  marks-wrote o₀ o₁ o₂ o₃ o₄ o₅ w r i e f g h k =
+      let a = bytes 1 (r .byte20) in
+      let b = bytes 1 (r .byte21) in
+      let c = bytes 1 (r .byte22) in
       let d = bytes 1 (getD ns (at + 4) 0) in
       let two = sets-twice o₀ o₁ o₂ w a b e f in
       let three = sets-twice o₀ o₂ o₃ w (a ++ b) c two g in
       let four = sets-twice o₀ o₃ o₄ w (a ++ b ++ c) d three h in
-      sets-twice o₀ o₄ o₅ w (a ++ b ++ c ++ d) (bytes 4 (getD ns (at + 5) 0)) four k ∙ rw (nth-at ns at 3, nth-at ns at 4, nth-at ns at 5) refl
+      sets-twice o₀ o₄ o₅ w (a ++ b ++ c ++ d) (bytes 4 (getD ns (at + 5) 0)) four k ∙ rw (i, nth-at ns at 3, nth-at ns at 4, nth-at ns at 5) refl
 
   pub counts-wrote : (o₀ o₁ o₂ : List ℕ) (w points : ℕ) → points ≡ pointsOf (getD ns (at + 8) 0) → o₁ ≡ sets o₀ w (bytes 2 (getD ns (at + 6) 0 - 1))
       → o₂ ≡ sets o₁ (w + 2) (bytes 2 points) → o₂ ≡ sets o₀ w (countsOf (drop at ns))

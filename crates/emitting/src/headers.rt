@@ -5,6 +5,7 @@ ghost use lib.ListN.{length, drop};
 ghost use lib.Seq.{sets};
 ghost use Rattle.emitting.specs.Records.{lengthsOf, namesOf, marksOf, countsOf, headerOf, RowFits};
 ghost use Rattle.layout.specs.Shared.Mark.{pointsOf};
+use fields::records;
 use storing::numbers;
 
 // "+0 identifier 0x7FFF7FFF; +4 total length; +8 metric length"
@@ -35,10 +36,10 @@ fn put_marks(table: &[u64], at: usize, out: &mut [u8], w: usize)
     requires { ⌜ (at + 8 ≤ length (now table)) × RowFits (drop at (now table)) × (w + 8 ≤ length (now out)) ⌝ }
     ensures { λ _. ⌜ now (out .exit) ≡ sets (now (out .entry)) w (marksOf (drop at (now (table .entry)))) ⌝ }
 {
-    let reference = table[at + 3];
-    numbers::put_u8(out, w, (reference % 256) as u8);
-    numbers::put_u8(out, w + 1, (reference / 256 % 256) as u8);
-    numbers::put_u8(out, w + 2, (reference / 65536 % 256) as u8);
+    let b = records::reference_bytes(table[at + 3]);
+    numbers::put_u8(out, w, b.b20);
+    numbers::put_u8(out, w + 1, b.b21);
+    numbers::put_u8(out, w + 2, b.b22);
     numbers::put_u8(out, w + 3, table[at + 4] as u8);
     numbers::put_u32(out, w + 4, table[at + 5] as u32);
 }

@@ -22,12 +22,7 @@ fn shape_at(table: &[u64], at: usize) -> Shape
     requires { ⌜ at + 8 ≤ length (now table) ⌝ }
     ensures { λ r. ⌜ r ≡ shapeOf (Row.referenceOf (Row.nth (drop at (now (table .entry))) Row.reference)) ⌝ }
 {
-    let reference = table[at + 3];
-    shapes::shape_of(
-        (reference % 256) as u8,
-        (reference / 256 % 256) as u8,
-        (reference / 65536 % 256) as u8,
-    )
+    shapes::shape_in(table[at + 3])
 }
 
 // A record.

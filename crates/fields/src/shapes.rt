@@ -3,7 +3,9 @@ ghost use mathlib.Core.Bool.{true, false};
 ghost use mathlib.Core.Path.{_≡_};
 ghost use Prim.Native.Nat.{_*_, _≤_, _<_, _^_};
 ghost use Rattle.fields.specs.Shapes.{shapeOf, dimensions, pointOf};
+ghost use Rattle.layout.specs.Shared.Row.{referenceOf};
 ghost use Rattle.layout.specs.Shared.Widths.{pointBytes};
+use crate::records;
 
 pub struct Shape {
     pub size: bool,
@@ -21,6 +23,14 @@ pub fn shape_of(b20: u8, b21: u8, b22: u8) -> Shape
         three: b22 / 2 % 2 == 1,
         text: b22 / 8 % 2 == 1,
     }
+}
+
+// The same by the three bytes as one number, as the table has them.
+pub fn shape_in(reference: u64) -> Shape
+    ensures { λ r. ⌜ r ≡ shapeOf (referenceOf reference) ⌝ }
+{
+    let b = records::reference_bytes(reference);
+    shape_of(b.b20, b.b21, b.b22)
 }
 
 // How many elements so many points have.

@@ -3,7 +3,6 @@ ghost use mathlib.Core.List.{List};
 ghost use mathlib.Core.Path.{_≡_};
 ghost use Prim.Native.Nat.{ℕ, _+_, _*_, _≤_, _<_, _^_};
 ghost use lib.ListN.{length, drop};
-ghost use Rattle.fields.specs.Shapes.{shapeOf};
 ghost use Rattle.fields.specs.Steps.{Next};
 ghost use Rattle.fields.specs.declared.steps.Step.the-variants.{Fine};
 ghost use Rattle.layout.specs.Layout.Sizes.{sumBy, partBytes, subobjectBytes};
@@ -22,16 +21,6 @@ use fields::shapes::Shape;
 use fields::steps::Step;
 use fields::steps::demand;
 use fields::steps::feature;
-
-// What the reference number says of each part.
-fn shape_in(reference: u64) -> Shape
-    ensures { λ r. ⌜ r ≡ shapeOf (referenceOf reference) ⌝ }
-{
-    let b20 = (reference % 256) as u8;
-    let b21 = (reference / 256 % 256) as u8;
-    let b22 = (reference / 65536 % 256) as u8;
-    shapes::shape_of(b20, b21, b22)
-}
 
 // The first part's points, where the word is so.
 fn first_checks(word: u64, points: u64, place: usize, year: u32) -> Step
@@ -119,7 +108,7 @@ fn take_pools(
     requires { ⌜ (p .element ≤ length (now elements)) × (p .byte ≤ length (now bytes)) × (p .number + 2 < 18446744073709551616) × (p .length ≤ 16777217) × (points < 2 ^ 32) × (head ≤ 4) ⌝ }
     ensures { λ r. ⌜ ((y : ℕ) (ns : List ℕ) → r ≡ movedOf flattenPart (headed head (referenceOf reference)) p (answer (upTo y) (poolWalk (referenceOf reference) points size (p .number) (here (tableOf ns (now (elements .entry)) (now (bytes .entry))) p)))) ⌝ }
 {
-    let s = shape_in(reference);
+    let s = shapes::shape_in(reference);
     let count = points as usize;
     match pool_checks(elements, bytes, p, s, count, size) {
         Step::Fine => {

@@ -19,6 +19,7 @@ use crate::places::Moved;
 use crate::places::Places;
 use crate::places::longer;
 use fields::flags;
+use fields::records;
 use fields::steps;
 use fields::steps::Step;
 use fields::steps::demand;
@@ -81,10 +82,8 @@ fn reference_checks(so_far: Step, reference: u64, place: usize, year: u32) -> St
     requires { ⌜ place + 8 ≤ 18446744073709551616 ⌝ }
     ensures { λ r. ⌜ Next «so_far» year place (referenceChecks 3 3 3 (referenceOf reference)) r ⌝ }
 {
-    let b20 = (reference % 256) as u8;
-    let b21 = (reference / 256 % 256) as u8;
-    let b22 = (reference / 65536 % 256) as u8;
-    flags::reference(so_far, b20, b21, b22, place, 3, 3, 3, year)
+    let b = records::reference_bytes(reference);
+    flags::reference(so_far, b.b20, b.b21, b.b22, place, 3, 3, 3, year)
 }
 
 // Generalisation, word, parts and items.

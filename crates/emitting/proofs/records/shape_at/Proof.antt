@@ -7,17 +7,9 @@ use Rattle.emitting.proofs.records.shape_at.Statement.{statement}
 use Rattle.emitting.proofs.records.shape_at.Tie as tie
 
 returns : tie.Need-returns
-returns c = c .shape-of .ensures ∙ ap (λ n. shapeOf (referenceOf n)) (nth-at (c .before .before .before .args .table .now) (c .before .before .before .args .at) 3)
+returns c = c .shape-in .ensures ∙ ap (λ n. shapeOf (referenceOf n)) (nth-at (c .before .before .before .args .table .now) (c .before .before .before .args .at) 3)
 
 pub shape-at-spec : {M : Type 1} → statement M
 shape-at-spec =
     tie.close
-    (tie.spec
-    (λ c. search needs)
-    (λ c. search needs)
-    (λ c. search needs)
-    (λ c. search needs)
-    (λ c. search needs)
-    (λ c. search needs)
-    (λ c κs. search needs)
-    returns)
+    (tie.spec (λ c. search needs) (λ c. search needs) (λ c. search needs) (λ c κs. search needs) returns)
