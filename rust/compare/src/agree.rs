@@ -37,7 +37,9 @@ impl Tally {
         match self.held {
             0 => "none".to_string(),
             held if held == self.same => format!("{held}, all the same"),
-            held if self.worst < 1e-12 => format!("{held}, {} the same, the others within {:.0e} of the value", self.same, self.worst),
+            held if self.worst < 1e-12 => {
+                format!("{held}, {} the same, the others within {:.0e} of the value", self.same, self.worst)
+            }
             held => format!("{held}, {} THE SAME, worst {}", self.same, self.worst),
         }
     }

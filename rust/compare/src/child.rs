@@ -100,7 +100,8 @@ fn limit_memory() {
 /// Runs this program again with two arguments and waits for what it prints.
 fn ask(who: &str, path: &str) -> End<String> {
     let program = std::env::current_exe().expect("the program's own file");
-    let mut child = Command::new(program).args([who, path]).stdout(Stdio::piped()).stderr(Stdio::null()).spawn().expect("a child process");
+    let mut child =
+        Command::new(program).args([who, path]).stdout(Stdio::piped()).stderr(Stdio::null()).spawn().expect("a child process");
     let start = Instant::now();
     let status = loop {
         if let Some(status) = child.try_wait().expect("the child's status") {

@@ -156,7 +156,10 @@ fn agrees_with_second(sheet: &[u8], ours: Option<[u64; 3]>) {
     let second = match second::read(sheet, YEAR) {
         Ok(reading) => {
             let table = library::read(sheet).map(|t| (t.numbers, t.elements, t.bytes)).ok();
-            assert!(table == Some((reading.table.numbers, reading.table.elements, reading.table.bytes)), "`second` reads another table");
+            assert!(
+                table == Some((reading.table.numbers, reading.table.elements, reading.table.bytes)),
+                "`second` reads another table"
+            );
             [0, 0, 0]
         }
         Err(refusal) => [refusal.number, refusal.place, refusal.year],

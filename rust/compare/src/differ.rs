@@ -96,7 +96,12 @@ fn where_the_points_are() -> Vec<Case> {
             one(Record::new(2, &[at(40_000.0, 65_535.0)]).element(Element::Integer2, false)),
             "000, 2.1.4: 0 to 65535",
         ),
-        case("a subobject of more than 65535 points", Look::Points, one(Record::new(0, &long).part(&long)), "000, 2.1.4: N2 + 65536 * N1"),
+        case(
+            "a subobject of more than 65535 points",
+            Look::Points,
+            one(Record::new(0, &long).part(&long)),
+            "000, 2.1.4: N2 + 65536 * N1",
+        ),
         case(
             "a vector: two points",
             Look::Points,
@@ -144,10 +149,20 @@ fn what_labels_say() -> Vec<Case> {
     let unicode = label(&closed(&encode_wide("Москва"), 2)).more(UNICODE);
     let lines = Record::new(3, &[at(1.0, 2.0)]).part(&[at(3.0, 4.0)]).texts(&[b"one", b"two"]);
     vec![
-        case("a label in the DOS coding, +97 = 0", Look::Texts, coded(0), "000, table 1, note 5. GDAL reads it in the Windows coding"),
+        case(
+            "a label in the DOS coding, +97 = 0",
+            Look::Texts,
+            coded(0),
+            "000, table 1, note 5. GDAL reads it in the Windows coding",
+        ),
         case("a label in KOI-8, +97 = 2", Look::Texts, coded(2), "000, table 1, note 5. GDAL reads it in the Windows coding"),
         case("a label in UTF-16", Look::Texts, one(unicode), "000, 2.1.4, and bit 4 of byte 21"),
-        case("a label in UTF-16 of Latin letters", Look::Texts, one(label(&closed(&encode_wide("Gas 40"), 2)).more(UNICODE)), "the same"),
+        case(
+            "a label in UTF-16 of Latin letters",
+            Look::Texts,
+            one(label(&closed(&encode_wide("Gas 40"), 2)).more(UNICODE)),
+            "the same",
+        ),
         case("a label of two lines", Look::Texts, one(lines), "000, 2.1.4: each line has its own text"),
         case(
             "a label with an alignment byte after a zero",
@@ -168,8 +183,18 @@ fn what_items_say() -> Vec<Case> {
             one(point().item(9, 1, 0, &[0xFB])),
             "01: a signed integer; 000 does not say. GDAL takes types 2 and 4 as signed",
         ),
-        case("type 8 with scale 2", Look::Values, one(point().item(9, 8, 2, &double)), "000, note 2 to table 9: the scale is for integers"),
-        case("type 127", Look::Values, one(point().item(9, 127, 6, &closed(&moscow, 2)).item(10, 2, 0, &[7, 0])), "000, note 1 to table 9"),
+        case(
+            "type 8 with scale 2",
+            Look::Values,
+            one(point().item(9, 8, 2, &double)),
+            "000, note 2 to table 9: the scale is for integers",
+        ),
+        case(
+            "type 127",
+            Look::Values,
+            one(point().item(9, 127, 6, &closed(&moscow, 2)).item(10, 2, 0, &[7, 0])),
+            "000, note 1 to table 9",
+        ),
         case(
             "type 127, Latin letters",
             Look::Values,
@@ -194,7 +219,12 @@ fn what_items_say() -> Vec<Case> {
             Sheet::real(vec![point().item(9, 2, 0, &[7, 0]), point().item(9, 126, 3, b"abc\0")]),
             "000, table 9: each item has its type",
         ),
-        case("text of 127 letters, then another item", Look::Values, item_of(127, 126), "000, note 2 to table 9: up to 255 letters"),
+        case(
+            "text of 127 letters, then another item",
+            Look::Values,
+            item_of(127, 126),
+            "000, note 2 to table 9: up to 255 letters",
+        ),
         case("text of 128 letters, then another item", Look::Values, item_of(128, 126), "the same"),
         case("text of 251 letters, type 0", Look::Values, item_of(251, 0), "the same"),
         case("text of 255 letters", Look::Values, item_of(255, 126), "the same"),

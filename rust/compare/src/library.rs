@@ -51,17 +51,38 @@ extern "C" {
     fn sxf_unit_of(sheet: *const u8, sheet_len: usize, year: u32) -> Unit;
     fn sxf_value_of(kind: u8, scale: u8, bits: u32) -> Value;
     fn sxf_check(sheet: *const u8, sheet_len: usize, year: u32) -> Checked;
-    #[rustfmt::skip]
     fn sxf_unfold(
-        sheet: *const u8, sheet_len: usize, year: u32,
-        table: *mut u64, table_len: usize, elements: *mut u64, elements_len: usize, bytes: *mut u8, bytes_len: usize,
+        sheet: *const u8,
+        sheet_len: usize,
+        year: u32,
+        table: *mut u64,
+        table_len: usize,
+        elements: *mut u64,
+        elements_len: usize,
+        bytes: *mut u8,
+        bytes_len: usize,
     ) -> Checked;
-    #[rustfmt::skip]
     fn sxf_write(
-        year: u32, date: *const u8, date_len: usize, designation: *const u8, designation_len: usize, scale: u32,
-        title: *const u8, title_len: usize, rest: *const [u8; 304], designation2: *const u8, designation2_len: usize, flags: *const [u8; 4],
-        table: *const u64, table_len: usize, elements: *const u64, elements_len: usize, bytes: *const u8, bytes_len: usize,
-        out: *mut u8, out_len: usize,
+        year: u32,
+        date: *const u8,
+        date_len: usize,
+        designation: *const u8,
+        designation_len: usize,
+        scale: u32,
+        title: *const u8,
+        title_len: usize,
+        rest: *const [u8; 304],
+        designation2: *const u8,
+        designation2_len: usize,
+        flags: *const [u8; 4],
+        table: *const u64,
+        table_len: usize,
+        elements: *const u64,
+        elements_len: usize,
+        bytes: *const u8,
+        bytes_len: usize,
+        out: *mut u8,
+        out_len: usize,
     ) -> Written;
 }
 
@@ -115,8 +136,15 @@ pub fn unfold(sheet: &[u8], table: &mut Table) -> Checked {
     let (numbers, elements, bytes) = (&mut table.numbers, &mut table.elements, &mut table.bytes);
     unsafe {
         sxf_unfold(
-            sheet.as_ptr(), sheet.len(), YEAR, numbers.as_mut_ptr(), numbers.len(), elements.as_mut_ptr(), elements.len(),
-            bytes.as_mut_ptr(), bytes.len(),
+            sheet.as_ptr(),
+            sheet.len(),
+            YEAR,
+            numbers.as_mut_ptr(),
+            numbers.len(),
+            elements.as_mut_ptr(),
+            elements.len(),
+            bytes.as_mut_ptr(),
+            bytes.len(),
         )
     }
 }
@@ -154,9 +182,26 @@ pub fn write(head: &Head, table: &Table) -> Result<Vec<u8>, Written> {
     let (numbers, elements, bytes) = (&table.numbers, &table.elements, &table.bytes);
     let written = unsafe {
         sxf_write(
-            YEAR, date.as_ptr(), date.len(), designation.as_ptr(), designation.len(), head.scale, title.as_ptr(), title.len(), &head.rest,
-            designation.as_ptr(), designation.len(), &head.flags, numbers.as_ptr(), numbers.len(), elements.as_ptr(), elements.len(),
-            bytes.as_ptr(), bytes.len(), out.as_mut_ptr(), out.len(),
+            YEAR,
+            date.as_ptr(),
+            date.len(),
+            designation.as_ptr(),
+            designation.len(),
+            head.scale,
+            title.as_ptr(),
+            title.len(),
+            &head.rest,
+            designation.as_ptr(),
+            designation.len(),
+            &head.flags,
+            numbers.as_ptr(),
+            numbers.len(),
+            elements.as_ptr(),
+            elements.len(),
+            bytes.as_ptr(),
+            bytes.len(),
+            out.as_mut_ptr(),
+            out.len(),
         )
     };
     if written.number != 0 {

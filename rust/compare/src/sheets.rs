@@ -50,7 +50,15 @@ impl Record {
     /// A record of one part of 8-byte elements without text and items.
     pub fn new(localisation: u8, points: &[[f64; 3]]) -> Record {
         let part = Part { points: points.to_vec(), text: Vec::new() };
-        Record { code: 11_200_000, localisation, element: Element::Float8, heights: false, more: 0, parts: vec![part], items: Vec::new() }
+        Record {
+            code: 11_200_000,
+            localisation,
+            element: Element::Float8,
+            heights: false,
+            more: 0,
+            parts: vec![part],
+            items: Vec::new(),
+        }
     }
 
     pub fn part(mut self, points: &[[f64; 3]]) -> Record {
@@ -138,7 +146,8 @@ fn table(records: &[Record]) -> Table {
         let first = record.parts[0].points.len() as u64;
         let word = if first >= 65_535 { first } else { 0 };
         let (parts, items) = (record.parts.len() as u64, record.items.len() as u64);
-        let numbers = [u64::from(record.code), (number as u64 + 1) & 0xFFFF, 7, u64::from(record.reference()), 255, word, parts, items];
+        let numbers =
+            [u64::from(record.code), (number as u64 + 1) & 0xFFFF, 7, u64::from(record.reference()), 255, word, parts, items];
         table.numbers.extend_from_slice(&numbers);
         for part in &record.parts {
             table.numbers.extend_from_slice(&[part.points.len() as u64, part.text.len() as u64]);
@@ -215,7 +224,17 @@ pub const DEVICE: u8 = 0x03;
 impl Sheet {
     /// Real coordinates in metres, texts in the Windows coding. The resolution is not 0, since GDAL opens no sheet with 0 there.
     pub fn real(records: Vec<Record>) -> Sheet {
-        Sheet { flags: REAL, coding: 1, accuracy: 0, unit: 0, scale: 10_000, resolution: 20_000, corners: [0.0; 8], frame: [0; 8], records }
+        Sheet {
+            flags: REAL,
+            coding: 1,
+            accuracy: 0,
+            unit: 0,
+            scale: 10_000,
+            resolution: 20_000,
+            corners: [0.0; 8],
+            frame: [0; 8],
+            records,
+        }
     }
 
     /// Device points, with a frame on the device and on the ground.

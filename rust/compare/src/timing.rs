@@ -16,7 +16,8 @@ fn sheet(points: usize) -> Vec<u8> {
     let mut random = Random(1);
     let mut point = || [6_000_000.0 + 5000.0 * random.unit(), 7_500_000.0 + 5000.0 * random.unit(), 0.0];
     let count = (LIMIT - 452) / (32 + 16 * points);
-    let records = (0..count).map(|_| Record::new(if points == 1 { 2 } else { 0 }, &(0..points).map(|_| point()).collect::<Vec<_>>()));
+    let records =
+        (0..count).map(|_| Record::new(if points == 1 { 2 } else { 0 }, &(0..points).map(|_| point()).collect::<Vec<_>>()));
     Sheet::real(records.collect()).write()
 }
 
