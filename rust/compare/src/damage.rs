@@ -62,7 +62,7 @@ fn damage(sheet: &mut Vec<u8>, kind: usize, random: &mut Random) {
         }
         2 => change_count(sheet, random),
         3 => sheet.truncate(place),
-        4 => drop(sheet.splice(place..place, (0..count).map(|_| random.bits() as u8)).collect::<Vec<_>>()),
+        4 => drop(sheet.splice(place..place, (0..count).map(|_| random.bits() as u8))),
         _ => drop(sheet.drain(place..(place + count).min(sheet.len()))),
     }
 }

@@ -51,7 +51,6 @@ extern "C" {
     fn sxf_unit_of(sheet: *const u8, sheet_len: usize, year: u32) -> Unit;
     fn sxf_value_of(kind: u8, scale: u8, bits: u32) -> Value;
     fn sxf_check(sheet: *const u8, sheet_len: usize, year: u32) -> Checked;
-    #[rustfmt::skip]
     fn sxf_unfold(
         sheet: *const u8,
         sheet_len: usize,
@@ -63,7 +62,6 @@ extern "C" {
         bytes: *mut u8,
         bytes_len: usize,
     ) -> Checked;
-    #[rustfmt::skip]
     fn sxf_write(
         year: u32,
         date: *const u8,

@@ -27,6 +27,7 @@ fn main() {
         exit(2);
     };
     match arguments[..] {
+        ["version"] => println!("GDAL {}", gdal.version()),
         ["agree"] => agree::run(&gdal),
         ["differ"] => differ::run(),
         ["refuse"] => refuse::run(),
@@ -34,7 +35,7 @@ fn main() {
         ["time"] => timing::run(&gdal),
         ["gdal", path] => child::gdal(&gdal, path),
         _ => {
-            eprintln!("compare agree | differ | refuse | damage | time");
+            eprintln!("compare version | agree | differ | refuse | damage | time");
             exit(1);
         }
     }

@@ -1,6 +1,6 @@
-//! Times a plain copy, the archive, `second` and GDAL on sheets of 16 MiB, in one run. Each figure is the best of the rounds, and in a
-//! round each has its turn, so that a slow spell of the machine meets all of them. The time is the processor's, the system's part
-//! included, so that other work on the machine counts little.
+//! Times a plain copy, the archive, `second` and GDAL on sheets of 16 MiB, in one run. Each figure is the best of the rounds. In a
+//! round each has its turn, so that a slow spell of the machine meets all of them, and another one begins each round, so that none always
+//! finds its memory warm. The time is the processor's, the system's part included, so that other work on the machine counts little.
 
 use crate::gdal::Gdal;
 use crate::library::{self, Table, LIMIT, YEAR};
@@ -9,7 +9,7 @@ use crate::scratch::Scratch;
 use crate::sheets::{Record, Sheet};
 use std::hint::black_box;
 
-const ROUNDS: usize = 25;
+const ROUNDS: usize = 32;
 
 /// Lines of so many points with 8-byte elements, as many as the limit has room for.
 fn sheet(points: usize) -> Vec<u8> {
@@ -47,33 +47,36 @@ impl Best {
     }
 }
 
+/// Takes an answer that nobody looks at.
+fn keep<T>(answer: T) {
+    black_box(answer);
+}
+
 fn measure(gdal: &Gdal, sheet: &[u8], path: &str, points: usize) -> Best {
     let sizes = library::check(sheet);
     let mut table = Table::room(&sizes);
     let mut copy = vec![1u8; sheet.len()];
     let mut best = Best([f64::MAX; TIMED.len()]);
-    for _ in 0..ROUNDS {
-        best.time(0, || black_box(&mut copy).copy_from_slice(black_box(sheet)));
-        best.time(1, || {
-            black_box(library::check(black_box(sheet)));
-        });
-        best.time(2, || {
-            black_box(library::unfold(black_box(sheet), &mut table));
-        });
-        best.time(3, || {
-            black_box(library::check(black_box(sheet)));
-            black_box(library::unfold(black_box(sheet), &mut table));
-        });
-        best.time(4, || drop(black_box(library::read(black_box(sheet)))));
-        best.time(5, || {
-            let bytes = std::fs::read(path).expect("the sheet's file");
-            drop(black_box(library::read(&bytes)));
-        });
-        best.time(6, || drop(black_box(second::read(black_box(sheet), YEAR))));
-        best.time(7, || {
-            let (features, vertices) = gdal.run_through(path);
-            assert_eq!((features, vertices), (sizes.records, sizes.records * points as u64), "GDAL has not read all");
-        });
+    for round in 0..ROUNDS {
+        for turn in 0..TIMED.len() {
+            let which = (round + turn) % TIMED.len();
+            best.time(which, || match which {
+                0 => black_box(&mut copy).copy_from_slice(black_box(sheet)),
+                1 => keep(library::check(black_box(sheet))),
+                2 => keep(library::unfold(black_box(sheet), &mut table)),
+                3 => {
+                    keep(library::check(black_box(sheet)));
+                    keep(library::unfold(black_box(sheet), &mut table));
+                }
+                4 => keep(library::read(black_box(sheet))),
+                5 => keep(library::read(&std::fs::read(path).expect("the sheet's file"))),
+                6 => keep(second::read(black_box(sheet), YEAR)),
+                _ => {
+                    let (features, vertices) = gdal.run_through(path);
+                    assert_eq!((features, vertices), (sizes.records, sizes.records * points as u64), "GDAL has not read all");
+                }
+            });
+        }
     }
     let reading = second::read(sheet, YEAR).expect("`second` takes the sheet");
     assert!(reading.table.numbers == table.numbers && reading.table.elements == table.elements, "`second` reads something else");
