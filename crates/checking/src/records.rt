@@ -75,7 +75,7 @@ fn rest(xs: &[u8], p: usize, h: Header, year: u32) -> Counted
 }
 
 // One record.
-pub fn one_record(xs: &[u8], p: usize, year: u32) -> Counted
+fn one_record(xs: &[u8], p: usize, year: u32) -> Counted
     requires { ⌜ p + length (now xs) < 2 ^ 32 ⌝ }
     ensures means { λ r. ⌜ r ≡ shown (tally flattenRecord) year (recordWalk p (now (xs .entry))) ⌝ }
     ensures within { λ r. ⌜ Within (length (now (xs .entry))) 0 r ⌝ }

@@ -1,9 +1,10 @@
 -- What pass 1 counts of one record of an accepted sheet, and what is answered of it.
 use mathlib.Core.Bool.{Bool}
-use mathlib.Core.List.{List, [], _∷_, _++_}
+use mathlib.Core.List.{List, [], _∷_, _++_, append-nil}
 use mathlib.Core.Path.{_≡_, refl, ap, sym, _∙_, subst}
 use Prim.Native.Nat.{ℕ, zero, suc, _+_, _-_, _*_, _/_, _≤_, _<_}
 use lib.ListN.{length, drop, length-append, length-drop}
+use native.Mathlib.Nat.{add-zero}
 use native.Mathlib.Omega.{arith}
 use Rattle.checking.specs.Tally.{tally, shown, countedOf}
 use Rattle.checking.specs.declared.tally.Counted.{Counted}
@@ -21,13 +22,13 @@ use Rattle.layout.specs.Reading.Sheets.{start, sheetWalk}
 use Rattle.layout.specs.Shared.Mark.{firstCount}
 use Rattle.layout.specs.Shared.Row.{referenceNumber}
 use Rattle.layout.specs.Sheet.{Record}
-use Rattle.layout.specs.Walk.{given, answer, upTo, piece}
-use Rattle.layout.specs.Writing.Tables.{flattenRecord}
+use Rattle.layout.specs.Walk.{Answer, Piece, given, refused, answer, upTo, piece, times}
+use Rattle.layout.specs.Writing.Tables.{joined, flattenRecord}
 use Rattle.layout.specs.declared.Found.{Found}
 use Rattle.layout.specs.declared.Found.the-variants as Find
 use Rattle.layout.specs.declared.RecordAt.{RecordAt}
 use Rattle.layout.specs.declared.Refusal.{Refusal}
-use Rattle.laws.proofs.Base.Walks.{Allowed, allowed-append, given-inj}
+use Rattle.laws.proofs.Base.Walks.{Allowed, allowed-append, answer-bind, given-inj}
 use Rattle.laws.proofs.Encoding.Lengths.{length-record}
 use Rattle.laws.proofs.Reading.Hops.{At, hop-record, hop-past}
 use Rattle.laws.proofs.Reading.Records.{mark-on, header-in, record-reads}
@@ -46,6 +47,16 @@ pub by-header : (xs : List ℕ) (place count total code inGroup group b20 b21 b2
     ≡ recordBy place count (headerIn xs)
 by-header xs place count total code inGroup group b20 b21 b22 reference generalisation word subobjects items points first et ec ei eg e20 e21 e22 er en ew es em ep ef =
     rw (et, ec, ei, eg, er, e20, e21, e22, en, em, ef, ew, es, ep) refl
+
+-- one record is a list of one
+pub one-of-one : (y p : ℕ) (xs : List ℕ) → shown (tally (joined flattenRecord)) y (times 1 recordWalk p xs) ≡ shown (tally flattenRecord) y (recordWalk p xs)
+one-of-one y p xs =
+    ap (λ v. countedOf (tally (joined flattenRecord)) v) (answer-bind (upTo y) (recordWalk p xs) _) ∙ go (answer (upTo y) (recordWalk p xs))
+  where
+    go : (v : Answer (Piece Record))
+        → countedOf (tally (joined flattenRecord)) (andThen v (λ a. given (piece (a .value ∷ []) (a .size + 0)))) ≡ countedOf (tally flattenRecord) v
+    go (given a) = simp (append-nil, add-zero)
+    go (refused n q z) = refl
 
 -- the years of one of the records are among those of all
 years-of : (al : ℕ → Bool) (place : ℕ) (l : List Record) (n : ℕ) (p : Placed) → recordOf place l n ≡ given p → Allowed al (flat recordYears l)

@@ -87,7 +87,7 @@ fn record_in(s: &[u8], year: u32, number: u64, count: u64) -> Found
     }
     let at = place_of(s, number);
     let xs = numbers::rest(s, at);
-    match records::one_record(xs, at, year) {
+    match records::records(xs, at, 1, year) {
         Counted::Fine(t) => Found::Record(record_by(xs, at, t.numbers)),
         Counted::Refused(r) => Found::Refused(r),
     }
