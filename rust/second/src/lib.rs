@@ -37,7 +37,7 @@ pub use head::Head;
 pub use meanings::{corners, unit, value, visibility, Unit, Value};
 pub use record::Record;
 pub use refusal::Refusal;
-pub use sheet::{read, record_at, Reading};
+pub use sheet::{check, read, record_at, Reading, Sizes};
 pub use table::Table;
 pub use writer::write;
 

@@ -3,7 +3,7 @@
 use crate::bytes::{bytes_at, u32_at};
 use crate::item::Kind;
 use crate::refusal::Refusal;
-use crate::sheet::check;
+use crate::sheet::head_of;
 
 /// What a sheet's coordinates are counted in.
 #[derive(Clone, Copy, PartialEq, Eq, Debug)]
@@ -22,7 +22,7 @@ pub enum Unit {
 
 /// The unit of a sheet, after the sheet's own refusals.
 pub fn unit(sheet: &[u8], year: u32) -> Result<Unit, Refusal> {
-    let rest = check(sheet, year)?.rest;
+    let rest = head_of(sheet, year)?.rest;
     let real_flag = rest[0] & 0x18 == 0x18;
     let accuracy = rest[98 - 96];
     let resolution = u32_at(&rest, 312 - 96) as i32;
@@ -42,7 +42,7 @@ pub fn unit(sheet: &[u8], year: u32) -> Result<Unit, Refusal> {
 /// refusals: X and Y of the south-west, north-west, north-east and south-east
 /// corner.
 pub fn corners(sheet: &[u8], year: u32) -> Result<[u64; 8], Refusal> {
-    let rest = check(sheet, year)?.rest;
+    let rest = head_of(sheet, year)?.rest;
     let mut corners = [0; 8];
     for (number, corner) in corners.iter_mut().enumerate() {
         *corner = u64::from_le_bytes(bytes_at(&rest, 104 - 96 + 8 * number));

@@ -3,8 +3,23 @@
 use crate::head::{read_head, Head, Opening, HEAD_BYTES};
 use crate::record::{read_record, Listener, Record};
 use crate::refusal::{require, Refusal};
-use crate::table::{Sizes, Table, Unfolding};
+use crate::table::{Counting, Table, Unfolding};
 use crate::years::Setting;
+
+/// What a sheet has, as far as it can be told without reading it all.
+#[derive(Clone, Copy, PartialEq, Eq, Debug)]
+pub struct Sizes {
+    /// The sum at 12.
+    pub sum: u64,
+    /// The record count at 440.
+    pub records: u64,
+    /// How many numbers its table has.
+    pub numbers: u64,
+    /// How many elements its table has.
+    pub elements: u64,
+    /// How many bytes of texts and values its table has.
+    pub bytes: u64,
+}
 
 /// All that a sheet says.
 #[derive(Clone, PartialEq, Eq, Debug)]
@@ -19,14 +34,28 @@ pub struct Reading {
     pub table: Table,
 }
 
+/// Checks a sheet at a setting and tells its sizes, or gives the first of its
+/// refusals.
+pub fn check(sheet: &[u8], year: u32) -> Result<Sizes, Refusal> {
+    let mut counted = Counting::default();
+    let (_, opening) = read_sheet(sheet, year, &mut counted)?;
+    Ok(Sizes {
+        sum: u64::from(opening.sum),
+        records: u64::from(opening.records),
+        numbers: counted.numbers as u64,
+        elements: counted.elements as u64,
+        bytes: counted.bytes as u64,
+    })
+}
+
 /// Reads a sheet at a setting, or gives the first of its refusals.
 ///
 /// The records are gone through twice: the first time they are checked and
 /// counted, so that the table is allocated once and at its right size.
 pub fn read(sheet: &[u8], year: u32) -> Result<Reading, Refusal> {
-    let mut sizes = Sizes::default();
-    let (setting, opening) = read_sheet(sheet, year, &mut sizes)?;
-    let mut unfolding = Unfolding::new(&sizes);
+    let mut counted = Counting::default();
+    let (setting, opening) = read_sheet(sheet, year, &mut counted)?;
+    let mut unfolding = Unfolding::new(&counted);
     read_records(sheet, setting, opening.records, &mut unfolding)?;
     Ok(Reading { sum: u64::from(opening.sum), records: u64::from(opening.records), head: opening.head, table: unfolding.table })
 }
@@ -39,8 +68,8 @@ pub fn record_at(sheet: &[u8], year: u32, number: u64) -> Result<Record, Refusal
     wanted.found.ok_or(Refusal::new(Refusal::ASK, 0))
 }
 
-/// Reads a sheet only for its refusals and for what stands before its records.
-pub(crate) fn check(sheet: &[u8], year: u32) -> Result<Head, Refusal> {
+/// What stands before the records of a sheet, after the sheet's own refusals.
+pub(crate) fn head_of(sheet: &[u8], year: u32) -> Result<Head, Refusal> {
     struct Nobody;
     impl Listener for Nobody {}
     Ok(read_sheet(sheet, year, &mut Nobody)?.1.head)

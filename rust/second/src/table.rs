@@ -24,15 +24,16 @@ const ITEM: usize = 4;
 const PARTS: usize = 6;
 const ITEMS: usize = 7;
 
-/// How long the three lists of a sheet's table will be.
+/// How long the three lists of a sheet's table will be, counted while the
+/// sheet is read.
 #[derive(Default)]
-pub(crate) struct Sizes {
-    numbers: usize,
-    elements: usize,
-    bytes: usize,
+pub(crate) struct Counting {
+    pub(crate) numbers: usize,
+    pub(crate) elements: usize,
+    pub(crate) bytes: usize,
 }
 
-impl Listener for Sizes {
+impl Listener for Counting {
     fn header(&mut self, _record: &Record) {
         self.numbers += ROW;
     }
@@ -57,12 +58,12 @@ pub(crate) struct Unfolding {
 }
 
 impl Unfolding {
-    pub(crate) fn new(sizes: &Sizes) -> Unfolding {
+    pub(crate) fn new(counted: &Counting) -> Unfolding {
         Unfolding {
             table: Table {
-                numbers: Vec::with_capacity(sizes.numbers),
-                elements: Vec::with_capacity(sizes.elements),
-                bytes: Vec::with_capacity(sizes.bytes),
+                numbers: Vec::with_capacity(counted.numbers),
+                elements: Vec::with_capacity(counted.elements),
+                bytes: Vec::with_capacity(counted.bytes),
             },
             row: 0,
         }

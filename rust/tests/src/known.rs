@@ -63,12 +63,12 @@ fn says(judge: &mut Judge, name: &str, sheet: &[u8], year: u32, answer: Answer) 
         0 => Ok((archive.sum, archive.records)),
         number => Err((number, archive.place, archive.year)),
     };
-    let second = match second::read(sheet, year) {
-        Ok(reading) => Ok((reading.sum, reading.records)),
-        Err(Refusal { number, place, year }) => Err((number, place, year)),
-    };
+    let refused = |Refusal { number, place, year }| (number, place, year);
+    let read = second::read(sheet, year).map(|reading| (reading.sum, reading.records)).map_err(refused);
+    let checked = second::check(sheet, year).map(|sizes| (sizes.sum, sizes.records)).map_err(refused);
     judge.same(|| format!("{name}, archive and page"), archive, answer);
-    judge.same(|| format!("{name}, page and second"), answer, second);
+    judge.same(|| format!("{name}, page and second"), answer, read);
+    judge.same(|| format!("{name}, page and second's check"), answer, checked);
     let years = [(year, Care::Whole)];
     judge.reads(sheet, &years, &mut Numbers::of_case(0, 0, 0));
 }

@@ -1,7 +1,7 @@
 //! Sheets at the limit and over it.
 
 use super::*;
-use crate::{read, record_at, write, LIMIT};
+use crate::{check, read, record_at, write, LIMIT};
 
 /// One record of long points with every bit set, and so many empty
 /// subobjects of four bytes each.
@@ -23,6 +23,7 @@ fn a_sheet_of_the_limit() {
     let reading = read(&sheet, 2004).unwrap();
     assert_eq!(reading.table, table);
     assert!(reading.sum > 4_200_000_000);
+    assert_eq!(check(&sheet, 2004), Ok(sizes_of(&reading)));
     assert_eq!(summed(sheet.clone()), sheet);
     assert_eq!(record_at(&sheet, 2004, 0).unwrap().points, MOST_POINTS);
     let room = write(2004, &head_e(), &table, LIMIT - 1);
@@ -34,6 +35,8 @@ fn a_sheet_over_the_limit() {
     assert_eq!(read(&vec![0; LIMIT + 1], 2017), Err(refused(1, 0)));
     assert_eq!(read(&vec![0; LIMIT + 1], 2018), Err(refused(16, 0)));
     assert_eq!(read(&vec![0; LIMIT], 2017), Err(refused(3, 0)));
+    assert_eq!(check(&vec![0; LIMIT + 1], 2017), Err(refused(1, 0)));
+    assert_eq!(check(&vec![0; LIMIT + 1], 2018), Err(refused(16, 0)));
 
     // Before ROOM, and after TABLE.
     let mut table = table_of(MOST_POINTS, SUBOBJECTS + 1);

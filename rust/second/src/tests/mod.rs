@@ -6,7 +6,7 @@ mod random;
 mod reading;
 mod writing;
 
-use crate::{Head, Refusal, Table};
+use crate::{Head, Reading, Refusal, Sizes, Table};
 
 /// A refusal with no year.
 fn refused(number: u64, place: u64) -> Refusal {
@@ -36,6 +36,17 @@ fn changed(sheet: &[u8], changes: &[(usize, &[u8])]) -> Vec<u8> {
         sheet[*place..place + bytes.len()].copy_from_slice(bytes);
     }
     summed(sheet)
+}
+
+/// The sizes of what was read.
+fn sizes_of(reading: &Reading) -> Sizes {
+    Sizes {
+        sum: reading.sum,
+        records: reading.records,
+        numbers: reading.table.numbers.len() as u64,
+        elements: reading.table.elements.len() as u64,
+        bytes: reading.table.bytes.len() as u64,
+    }
 }
 
 /// Sheet E.

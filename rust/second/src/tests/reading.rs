@@ -1,10 +1,13 @@
 //! Reading: document 01's cases, each refusal and its place, and their order.
 
 use super::*;
-use crate::{read, record_at, Record};
+use crate::{check, read, record_at, Record};
 
+/// The refusal of a sheet, which reading and checking give alike.
 fn refusal(sheet: &[u8], year: u32) -> Refusal {
-    read(sheet, year).expect_err("a refusal")
+    let refusal = read(sheet, year).expect_err("a refusal");
+    assert_eq!(check(sheet, year), Err(refusal));
+    refusal
 }
 
 /// The refusal of sheet P with bytes changed, at setting 2017.
@@ -53,6 +56,24 @@ fn sheet_q_is_read() {
     assert_eq!(sheet.len(), 494);
     assert_eq!(reading.sum, 2384);
     assert_eq!(reading.table, table_q());
+}
+
+#[test]
+fn sizes_are_told() {
+    let sizes = |sheet: &[u8]| check(sheet, 2017).unwrap();
+    assert_eq!(sizes(&sheet_e()), Sizes { sum: 795, records: 0, numbers: 0, elements: 0, bytes: 0 });
+    assert_eq!(sizes(&sheet_p()), Sizes { sum: 1865, records: 1, numbers: 10, elements: 2, bytes: 0 });
+    assert_eq!(sizes(&sheet_q()), Sizes { sum: 2384, records: 1, numbers: 14, elements: 2, bytes: 2 });
+    // A label of two parts in three dimensions with the texts "ab" and "c",
+    // then P's record.
+    let metric = [&[7; 8][..], b"\x02ab\0", &[0, 0, 2, 0], &[8; 16], b"\x01c\0"].concat();
+    let label = record([3, 0, 0x0A], 0, 1, 1, &metric, &[]);
+    let two = sheet_with(&[label, record([2, 0, 0], 0, 0, 1, &POINT_3_4, &[])]);
+    let sum = u64::from(u32::from_le_bytes([two[12], two[13], two[14], two[15]]));
+    assert_eq!(sizes(&two), Sizes { sum, records: 2, numbers: 8 + 2 * 2 + 10, elements: 3 + 6 + 2, bytes: 3 });
+    for sheet in [sheet_e(), sheet_p(), sheet_q(), two] {
+        assert_eq!(sizes(&sheet), sizes_of(&read(&sheet, 2017).unwrap()));
+    }
 }
 
 #[test]

@@ -5,7 +5,7 @@ use crate::numbers::Numbers;
 use crate::raw;
 use crate::reasons;
 use crate::tally::{Call, Reason, Way, Where};
-use second::{Reading, Refusal, Table};
+use second::{Reading, Refusal, Sizes, Table};
 
 impl Judge {
     /// Reads a sheet at several years; the first says whether the case is
@@ -41,7 +41,8 @@ impl Judge {
         }
         let answer = raw::check(sheet, year);
         self.meet(Call::Check, answer.number);
-        self.same(|| format!("check at {year}"), answer, checked(&due));
+        self.same(|| format!("check at {year}"), answer, checked(second::check(sheet, year)));
+        self.same(|| format!("check at {year}, held against what is read"), answer, checked(sizes(&due)));
         if care != Care::Check {
             self.unfolds(sheet, year, &due, care, numbers);
             self.records_at(sheet, year, &due, care, numbers);
@@ -87,7 +88,7 @@ impl Judge {
     pub fn unfold(&mut self, sheet: &[u8], year: u32, due: &Result<Reading, Refusal>, rooms: [usize; 3]) {
         let answer = raw::unfold(sheet, year, self.table.lend(rooms[0]), self.elements.lend(rooms[1]), self.bytes.lend(rooms[2]));
         self.meet(Call::Unfold, answer.number);
-        let mut expected = checked(due);
+        let mut expected = checked(sizes(due));
         let none = Table::default();
         let mut written = &none;
         if let Ok(reading) = due {
@@ -222,11 +223,18 @@ impl Judge {
     }
 }
 
-fn checked(due: &Result<Reading, Refusal>) -> raw::Checked {
+/// The sizes of what is read.
+fn sizes(due: &Result<Reading, Refusal>) -> Result<Sizes, Refusal> {
+    let reading = due.as_ref().map_err(|refusal| *refusal)?;
+    let [numbers, elements, bytes] = table_sizes(&reading.table).map(|size| size as u64);
+    Ok(Sizes { sum: reading.sum, records: reading.records, numbers, elements, bytes })
+}
+
+/// The archive's answer that these sizes, or this refusal, call for.
+fn checked(due: Result<Sizes, Refusal>) -> raw::Checked {
     match due {
-        Ok(reading) => {
-            let [numbers, elements, bytes] = table_sizes(&reading.table).map(|size| size as u64);
-            raw::Checked { number: 0, place: 0, year: 0, sum: reading.sum, records: reading.records, numbers, elements, bytes }
+        Ok(Sizes { sum, records, numbers, elements, bytes }) => {
+            raw::Checked { number: 0, place: 0, year: 0, sum, records, numbers, elements, bytes }
         }
         Err(refusal) => {
             raw::Checked { number: refusal.number, place: refusal.place, year: refusal.year, ..raw::Checked::default() }
