@@ -74,6 +74,29 @@ pub fn unfold(sheet: &[u8], year: u32, table: &mut [u64], elements: &mut [u64], 
     unsafe { sxf_unfold(sheet.as_ptr(), sheet.len(), year, table.as_mut_ptr(), t, elements.as_mut_ptr(), e, bytes.as_mut_ptr(), b) }
 }
 
+/// Unfolds into new vectors of exactly these lengths. Their memory is asked for and not filled first, since the archive writes all of it.
+/// They are empty unless the answer is success and states these lengths.
+pub fn unfold_new(sheet: &[u8], year: u32, lengths: [usize; 3]) -> (Checked, crate::Table) {
+    let [n, e, b] = lengths;
+    let mut table = crate::Table { numbers: Vec::with_capacity(n), elements: Vec::with_capacity(e), bytes: Vec::with_capacity(b) };
+    let (numbers, elements, bytes) = (table.numbers.as_mut_ptr(), table.elements.as_mut_ptr(), table.bytes.as_mut_ptr());
+    // SAFETY: the sheet is a slice, lent for the call, which only reads it. Each of the three has room for as many as are lent of it, is not
+    // null and overlaps nothing else. What is lent there is not initialised: the archive never reads it (crates/filling only stores to it),
+    // and by its contract (crates/sxf, docs/PROMISES.md) what it leaves there does not depend on what was there before.
+    let answer = unsafe { sxf_unfold(sheet.as_ptr(), sheet.len(), year, numbers, n, elements, e, bytes, b) };
+    let stated = [answer.numbers, answer.elements, answer.bytes];
+    if answer.number == 0 && stated == lengths.map(|length| length as u64) {
+        // SAFETY: each length is within the capacity asked for above, and all of it was written: by the same contract success writes the
+        // whole of the lengths that it states, which are these. A refusal writes nothing, and does not come here.
+        unsafe {
+            table.numbers.set_len(n);
+            table.elements.set_len(e);
+            table.bytes.set_len(b);
+        }
+    }
+    (answer, table)
+}
+
 pub fn record_at(sheet: &[u8], year: u32, record: u64) -> Record {
     // SAFETY: as `check`.
     unsafe { sxf_record_at(sheet.as_ptr(), sheet.len(), year, record) }
@@ -175,5 +198,30 @@ mod tests {
     fn empty_slices_are_lent() {
         assert_eq!(check(&[], 2017).number, 2);
         assert_eq!(unfold(&[], 2017, &mut [], &mut [], &mut []).number, 2);
+        assert_eq!(unfold_new(&[], 2017, [0; 3]).0.number, 2);
+    }
+
+    /// Numbers 14, elements 2, bytes 2.
+    const Q: &[u8] = include_bytes!("../../../samples/Q.sxf");
+
+    #[test]
+    fn what_is_unfolded_into_new_memory_is_what_is_unfolded_into_lent() {
+        let (mut numbers, mut elements, mut bytes) = ([9; 14], [9; 2], [9; 2]);
+        let lent = unfold(Q, 2017, &mut numbers, &mut elements, &mut bytes);
+        let (answer, table) = unfold_new(Q, 2017, [14, 2, 2]);
+        assert_eq!((lent.number, answer), (0, lent));
+        assert_eq!(table, crate::Table { numbers: numbers.to_vec(), elements: elements.to_vec(), bytes: bytes.to_vec() });
+    }
+
+    #[test]
+    fn new_memory_of_other_lengths_stays_empty() {
+        for lengths in [[15, 2, 2], [14, 3, 2], [14, 2, 3], [99; 3]] {
+            let (answer, table) = unfold_new(Q, 2017, lengths);
+            assert_eq!((answer.number, table), (0, crate::Table::default()));
+        }
+        for (place, lengths) in [(1, [13, 2, 2]), (2, [14, 1, 2]), (3, [14, 2, 1])] {
+            let (answer, table) = unfold_new(Q, 2017, lengths);
+            assert_eq!((answer.number, answer.place, table), (15, place, crate::Table::default()));
+        }
     }
 }

@@ -33,6 +33,11 @@ impl Sizes {
             bytes: answer.bytes as usize,
         })
     }
+
+    /// The lengths of the three outputs, in their order.
+    pub(crate) fn lengths(&self) -> [usize; 3] {
+        [self.numbers, self.elements, self.bytes]
+    }
 }
 
 /// Checks a sheet: its sizes, or why it is refused.

@@ -68,10 +68,16 @@ impl Table {
         Table::unfold_sized(sheet, setting, &sizes)
     }
 
+    /// Unfolds a sheet into room of these sizes, which checking it has answered. Where unfolding answers others, which would go against the
+    /// library's contract, it is ROOM for the first that differs.
     pub(crate) fn unfold_sized(sheet: &[u8], setting: Setting, sizes: &Sizes) -> Result<Table, Refusal> {
-        let mut table = Table { numbers: vec![0; sizes.numbers], elements: vec![0; sizes.elements], bytes: vec![0; sizes.bytes] };
-        unfold_into(sheet, setting, &mut table.numbers, &mut table.elements, &mut table.bytes)?;
-        Ok(table)
+        let lent = sizes.lengths();
+        let (answer, table) = raw::unfold_new(sheet, setting.year(), lent);
+        let written = Sizes::of(answer)?.lengths();
+        match (0..3).find(|&output| written[output] != lent[output]) {
+            None => Ok(table),
+            Some(output) => Err(Refusal { number: Refusal::ROOM, place: output + 1, year: 0 }),
+        }
     }
 
     /// The table, lent.
@@ -302,6 +308,21 @@ mod tests {
         ] {
             assert_eq!(broken.rows().next(), None);
             assert_eq!(broken.sheet_length(), None);
+        }
+    }
+
+    #[test]
+    fn a_table_is_unfolded_into_room_of_its_sizes_or_not_at_all() {
+        let sheet = include_bytes!("../../../samples/Q.sxf");
+        let sizes = crate::check(sheet, Setting::Y2017).expect("Q is accepted");
+        let unfold = |sizes| Table::unfold_sized(sheet, Setting::Y2017, &sizes);
+        let table = unfold(sizes).expect("Q is unfolded");
+        assert_eq!(table.lend(), q());
+        for other in [|size: usize| size + 1, |size: usize| size - 1] {
+            let room = |place| Err(Refusal { number: Refusal::ROOM, place, year: 0 });
+            assert_eq!(unfold(Sizes { numbers: other(sizes.numbers), ..sizes }), room(1));
+            assert_eq!(unfold(Sizes { elements: other(sizes.elements), ..sizes }), room(2));
+            assert_eq!(unfold(Sizes { bytes: other(sizes.bytes), ..sizes }), room(3));
         }
     }
 
