@@ -1,7 +1,7 @@
 //! One sheet read in a process of its own, so that a reader which dies or does not come back is seen as such.
 
 use crate::gdal::{self, Feature, Field, Gdal};
-use crate::library;
+use crate::SETTING;
 use std::hash::{DefaultHasher, Hash, Hasher};
 use std::io::Read;
 use std::os::unix::process::ExitStatusExt;
@@ -83,7 +83,7 @@ pub fn gdal(gdal: &Gdal, path: &str) {
 pub fn ours(path: &str) {
     limit_memory();
     let sheet = std::fs::read(path).expect("the sheet's file");
-    match library::read(&sheet) {
+    match sxf::Table::unfold(&sheet, SETTING) {
         Ok(_) => println!("0 0 0"),
         Err(refusal) => println!("{} {} {}", refusal.number, refusal.place, refusal.year),
     }

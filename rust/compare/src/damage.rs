@@ -2,9 +2,10 @@
 
 use crate::bases::{self, Base};
 use crate::child::{ask_gdal, ask_ours, End, Opened};
-use crate::library::{self, REFUSALS, YEAR};
 use crate::random::Random;
 use crate::scratch::Scratch;
+use crate::SETTING;
+use sxf::{Refusal, Table};
 
 const SHEETS: usize = 1000;
 
@@ -153,9 +154,9 @@ fn try_all() -> Vec<Tried> {
 
 /// `second` must say the same.
 fn agrees_with_second(sheet: &[u8], ours: Option<[u64; 3]>) {
-    let second = match second::read(sheet, YEAR) {
+    let second = match second::read(sheet, SETTING.year()) {
         Ok(reading) => {
-            let table = library::read(sheet).map(|t| (t.numbers, t.elements, t.bytes)).ok();
+            let table = Table::unfold(sheet, SETTING).map(|t| (t.numbers, t.elements, t.bytes)).ok();
             assert!(
                 table == Some((reading.table.numbers, reading.table.elements, reading.table.bytes)),
                 "`second` reads another table"
@@ -178,6 +179,14 @@ fn row(name: &str, tried: &[&Tried]) {
     println!("| {name} | {} | {refused} | {accepted} | {} | {gdal} |", tried.len(), count(tried, |t| t.ours.is_none()));
 }
 
+/// What the answer of that number is called; 0 is no refusal.
+fn name(number: u32) -> &'static str {
+    match number {
+        0 => "ACCEPTED",
+        _ => Refusal { number, place: 0, year: 0 }.name(),
+    }
+}
+
 pub fn run() {
     let all = try_all();
     let of = |which: &dyn Fn(&Tried) -> bool| all.iter().filter(|t| which(t)).collect::<Vec<_>>();
@@ -192,11 +201,11 @@ pub fn run() {
     row("all that are not legal", &of(&|t| t.ours.is_some_and(|o| o[0] != 0)));
     row("not legal, sum put right", &of(&|t| t.mended && t.ours.is_some_and(|o| o[0] != 0)));
     println!("\n| our answer | sheets | GDAL {} |\n|---|---|---|---|---|---|---|---|", DID.map(|d| d.1).join(" | "));
-    for (number, name) in REFUSALS.iter().enumerate() {
-        let answered = of(&|t| t.ours.is_some_and(|o| o[0] == number as u64));
+    for number in 0..=Refusal::ASK {
+        let answered = of(&|t| t.ours.is_some_and(|o| o[0] == u64::from(number)));
         if !answered.is_empty() {
             let gdal = DID.map(|(did, _)| count(&answered, |t| t.gdal == did).to_string()).join(" | ");
-            println!("| {number} {name} | {} | {gdal} |", answered.len());
+            println!("| {number} {} | {} | {gdal} |", name(number), answered.len());
         }
     }
 }

@@ -1,11 +1,11 @@
 //! Legal sheets, one difference each, on which GDAL's reading is another than the archive's.
 
 use crate::child::{self, ask_gdal, End};
-use crate::library;
 use crate::scratch::Scratch;
 use crate::sheets::{self, Element, Record, Sheet, MULTIPOLYGON, UNICODE};
 use crate::texts::{decode, decode_wide, encode, encode_wide};
 use crate::values::{value, Value};
+use crate::SETTING;
 
 #[derive(Clone, Copy)]
 enum Look {
@@ -231,6 +231,10 @@ fn what_items_say() -> Vec<Case> {
     ]
 }
 
+fn unit(sheet: &[u8]) -> sxf::Unit {
+    sxf::Sheet::read(sheet, SETTING).expect("the reader takes the sheet").unit()
+}
+
 fn ours(look: Look, sheet: &Sheet, bytes: &[u8]) -> String {
     let records = sheets::read(bytes);
     let points = |record: &Record| {
@@ -255,7 +259,7 @@ fn ours(look: Look, sheet: &Sheet, bytes: &[u8]) -> String {
         record.items.iter().map(|i| format!("{} {}", i.code, shown(value(i)))).collect::<Vec<_>>().join(", ")
     };
     match look {
-        Look::Points => format!("{}: {}", library::unit_of(bytes), records.iter().map(points).collect::<Vec<_>>().join("; ")),
+        Look::Points => format!("{}: {}", unit(bytes), records.iter().map(points).collect::<Vec<_>>().join("; ")),
         Look::Texts => records.iter().map(text).collect::<Vec<_>>().join("; "),
         Look::Values => records.iter().map(items).collect::<Vec<_>>().join("; "),
     }

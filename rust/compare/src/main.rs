@@ -5,7 +5,6 @@ mod child;
 mod damage;
 mod differ;
 mod gdal;
-mod library;
 mod random;
 mod refuse;
 mod scratch;
@@ -15,6 +14,10 @@ mod timing;
 mod values;
 
 use std::process::exit;
+use sxf::Setting;
+
+/// The setting of every reading and writing here.
+const SETTING: Setting = Setting::Y2017;
 
 fn main() {
     let arguments: Vec<String> = std::env::args().skip(1).collect();

@@ -2,9 +2,9 @@
 
 use crate::child::{ask_gdal, End};
 use crate::damage::put_sum_right;
-use crate::library::{self, REFUSALS};
 use crate::scratch::Scratch;
 use crate::sheets::{Record, Sheet};
+use crate::SETTING;
 
 /// A sheet of two records, a point and a line, with a change of its bytes; the sum is put right afterwards unless it is the ground.
 fn cases() -> Vec<(&'static str, Vec<u8>)> {
@@ -60,7 +60,7 @@ pub fn run() {
     println!("| the sheet has | this library | GDAL |\n|---|---|---|");
     for (name, sheet) in cases() {
         std::fs::write(&path, &sheet).expect("room for the sheet's file");
-        let ours = library::check(&sheet);
+        let ours = sxf::check(&sheet, SETTING).expect_err("the reader refuses the sheet");
         let theirs = match ask_gdal(&path) {
             End::Died(signal) => format!("dies, signal {signal}"),
             End::Hung => "hangs".to_string(),
@@ -70,6 +70,6 @@ pub fn run() {
                 format!("opens it {said}, features: {}", seen.features)
             }
         };
-        println!("| {name} | {} {} at {} | {theirs} |", ours.number, REFUSALS[ours.number as usize], ours.place);
+        println!("| {name} | {} {} at {} | {theirs} |", ours.number, ours.name(), ours.place);
     }
 }

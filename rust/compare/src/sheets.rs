@@ -1,6 +1,7 @@
 //! A sheet as a list of records, and the way to its bytes through the archive's writer and back through its reader.
 
-use crate::library::{self, Head, Table};
+use crate::SETTING;
+use sxf::{Head, Table};
 
 /// How elements are stored.
 #[derive(Clone, Copy, PartialEq, Eq, Debug)]
@@ -244,7 +245,8 @@ impl Sheet {
         Sheet { flags: DEVICE, corners, frame, ..Sheet::real(records) }
     }
 
-    fn head(&self) -> Head {
+    /// The bytes of the passport from 96 on.
+    fn rest(&self) -> [u8; 304] {
         let mut rest = [0; 304];
         let mut put = |place: usize, bytes: &[u8]| rest[place - 96..place - 96 + bytes.len()].copy_from_slice(bytes);
         put(96, &[self.flags, self.coding, self.accuracy]);
@@ -256,17 +258,25 @@ impl Sheet {
         for (number, corner) in self.frame.iter().enumerate() {
             put(316 + 4 * number, &corner.to_le_bytes());
         }
-        let flags = [self.flags, self.coding, 0, 0];
-        Head { date: b"20261115", designation: b"N-37-1", scale: self.scale, title: b"Sheet", rest, flags }
+        rest
     }
 
     /// The bytes of the sheet, made by the archive's writer.
     pub fn write(&self) -> Vec<u8> {
-        library::write(&self.head(), &table(&self.records)).expect("the writer takes the sheet")
+        let head = Head {
+            date: b"20261115",
+            designation: b"N-37-1",
+            scale: self.scale,
+            title: b"Sheet",
+            rest: &self.rest(),
+            designation2: b"N-37-1",
+            flags: &[self.flags, self.coding, 0, 0],
+        };
+        sxf::write(&head, table(&self.records).lend(), SETTING).expect("the writer takes the sheet")
     }
 }
 
 /// The records of a sheet, read by the archive's reader.
 pub fn read(sheet: &[u8]) -> Vec<Record> {
-    records(&library::read(sheet).expect("the reader takes the sheet"))
+    records(&Table::unfold(sheet, SETTING).expect("the reader takes the sheet"))
 }

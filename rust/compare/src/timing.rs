@@ -3,11 +3,13 @@
 //! finds its memory warm. The time is the processor's, the system's part included, so that other work on the machine counts little.
 
 use crate::gdal::Gdal;
-use crate::library::{self, Table, LIMIT, YEAR};
 use crate::random::Random;
 use crate::scratch::Scratch;
 use crate::sheets::{Record, Sheet};
+use crate::SETTING;
 use std::hint::black_box;
+use sxf::table::unfold_into;
+use sxf::{Table, LIMIT};
 
 const ROUNDS: usize = 32;
 
@@ -52,9 +54,14 @@ fn keep<T>(answer: T) {
     black_box(answer);
 }
 
+/// Into memory that was touched before.
+fn unfold(sheet: &[u8], table: &mut Table) {
+    keep(unfold_into(black_box(sheet), SETTING, &mut table.numbers, &mut table.elements, &mut table.bytes));
+}
+
 fn measure(gdal: &Gdal, sheet: &[u8], path: &str, points: usize) -> Best {
-    let sizes = library::check(sheet);
-    let mut table = Table::room(&sizes);
+    let sizes = sxf::check(sheet, SETTING).expect("the sheet is accepted");
+    let mut table = Table { numbers: vec![1; sizes.numbers], elements: vec![1; sizes.elements], bytes: vec![1; sizes.bytes] };
     let mut copy = vec![1u8; sheet.len()];
     let mut best = Best([f64::MAX; TIMED.len()]);
     for round in 0..ROUNDS {
@@ -62,23 +69,24 @@ fn measure(gdal: &Gdal, sheet: &[u8], path: &str, points: usize) -> Best {
             let which = (round + turn) % TIMED.len();
             best.time(which, || match which {
                 0 => black_box(&mut copy).copy_from_slice(black_box(sheet)),
-                1 => keep(library::check(black_box(sheet))),
-                2 => keep(library::unfold(black_box(sheet), &mut table)),
+                1 => keep(sxf::check(black_box(sheet), SETTING)),
+                2 => unfold(sheet, &mut table),
                 3 => {
-                    keep(library::check(black_box(sheet)));
-                    keep(library::unfold(black_box(sheet), &mut table));
+                    keep(sxf::check(black_box(sheet), SETTING));
+                    unfold(sheet, &mut table);
                 }
-                4 => keep(library::read(black_box(sheet))),
-                5 => keep(library::read(&std::fs::read(path).expect("the sheet's file"))),
-                6 => keep(second::read(black_box(sheet), YEAR)),
+                4 => keep(Table::unfold(black_box(sheet), SETTING)),
+                5 => keep(Table::unfold(&std::fs::read(path).expect("the sheet's file"), SETTING)),
+                6 => keep(second::read(black_box(sheet), SETTING.year())),
                 _ => {
                     let (features, vertices) = gdal.run_through(path);
-                    assert_eq!((features, vertices), (sizes.records, sizes.records * points as u64), "GDAL has not read all");
+                    let records = sizes.records as u64;
+                    assert_eq!((features, vertices), (records, records * points as u64), "GDAL has not read all");
                 }
             });
         }
     }
-    let reading = second::read(sheet, YEAR).expect("`second` takes the sheet");
+    let reading = second::read(sheet, SETTING.year()).expect("`second` takes the sheet");
     assert!(reading.table.numbers == table.numbers && reading.table.elements == table.elements, "`second` reads something else");
     best
 }
@@ -98,7 +106,7 @@ pub fn run(gdal: &Gdal) {
         let Best(best) = measure(gdal, &bytes, &path, points);
         let times = best.map(|time| format!("{time:.1}")).join(" | ");
         let [_, _, unfold, both, _, _, second, theirs] = best;
-        let records = library::check(&bytes).records;
+        let records = sxf::check(&bytes, SETTING).expect("the sheet is accepted").records;
         println!("| {points} | {records} | {times} | {:.1} | {:.2} | {:.2} |", theirs / both, second / both, second / unfold);
     }
 }

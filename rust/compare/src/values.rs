@@ -1,8 +1,9 @@
-//! What an item's value stands for: numbers as the archive answers them, texts by the coding that 000, table 9, names for their type.
+//! What an item's value stands for, as the wrapper tells it: numbers as the archive answers them, the double of type 8 as it is, and texts
+//! with the coding that 000, table 9, names for their type.
 
-use crate::library;
 use crate::sheets::Item;
 use crate::texts::{decode, decode_wide};
+use sxf::{Coding, Text};
 
 #[derive(Clone, Debug, PartialEq)]
 pub enum Value {
@@ -10,17 +11,21 @@ pub enum Value {
     Text(String),
 }
 
-/// The double of type 8 is itself; its scale is only carried.
 pub fn value(item: &Item) -> Value {
-    let bits = item.value.iter().take(8).rev().fold(0u64, |bits, &byte| bits << 8 | u64::from(byte));
-    match item.kind {
-        8 => Value::Number(f64::from_bits(bits)),
-        0 => Value::Text(decode(0, &item.value)),
-        126 => Value::Text(decode(1, &item.value)),
-        127 | 128 => Value::Text(decode_wide(&item.value)),
-        kind => {
-            let (whole, power) = library::value_of(kind, item.scale, bits as u32).expect("a number");
-            Value::Number(format!("{whole}e{power}").parse().expect("a decimal number"))
-        }
+    let item = sxf::Item { code: item.code, kind: item.kind, scale: item.scale, bytes: &item.value };
+    match item.value() {
+        sxf::Value::Text(text) => Value::Text(letters(text)),
+        sxf::Value::Decimal { whole, power } => Value::Number(format!("{whole}e{power}").parse().expect("a decimal number")),
+        sxf::Value::Double(number) => Value::Number(number.value().expect("a number")),
+        sxf::Value::Unread => panic!("no sheet has {item:?}"),
+    }
+}
+
+fn letters(text: Text) -> String {
+    match text.coding {
+        Coding::Dos => decode(0, text.bytes),
+        Coding::Windows => decode(1, text.bytes),
+        Coding::Koi8 => decode(2, text.bytes),
+        Coding::Utf16 => decode_wide(text.bytes),
     }
 }
