@@ -9,9 +9,46 @@ use crate::sheets::{Record, Sheet};
 use crate::SETTING;
 use std::hint::black_box;
 use sxf::table::unfold_into;
-use sxf::{Table, LIMIT};
+use sxf::{Sizes, Table, LIMIT};
 
 const ROUNDS: usize = 32;
+
+#[derive(Clone, Copy)]
+enum Timed {
+    Copy,
+    Floor,
+    Check,
+    Unfold,
+    CheckUnfold,
+    AskedFor,
+    FromFile,
+    SecondRead,
+    SecondCheckRead,
+    Gdal,
+}
+
+/// What is timed, in the order of the table.
+const TIMED: [(Timed, &str); 10] = [
+    (Timed::Copy, "copy"),
+    (Timed::Floor, "floor"),
+    (Timed::Check, "check"),
+    (Timed::Unfold, "unfold"),
+    (Timed::CheckUnfold, "check + unfold"),
+    (Timed::AskedFor, "check + unfold, memory asked for"),
+    (Timed::FromFile, "the same from the file"),
+    (Timed::SecondRead, "`second::read`"),
+    (Timed::SecondCheckRead, "`second::check` + `second::read`"),
+    (Timed::Gdal, "GDAL"),
+];
+
+/// How many times as long the first takes as the second. One call of `second` is held against one of the archive, which both check the
+/// sheet and unfold it, and two calls against two, where the sizes are asked for first; the last is one call against two.
+const RATIOS: [(&str, Timed, Timed); 4] = [
+    ("GDAL / (check + unfold)", Timed::Gdal, Timed::CheckUnfold),
+    ("`second::read` / unfold", Timed::SecondRead, Timed::Unfold),
+    ("(`second::check` + `second::read`) / (check + unfold)", Timed::SecondCheckRead, Timed::CheckUnfold),
+    ("`second::read` / (check + unfold)", Timed::SecondRead, Timed::CheckUnfold),
+];
 
 /// Lines of so many points with 8-byte elements, as many as the limit has room for.
 fn sheet(points: usize) -> Vec<u8> {
@@ -34,18 +71,19 @@ fn milliseconds() -> f64 {
     time[0] as f64 * 1e3 + time[1] as f64 / 1e6
 }
 
-/// What is timed, in the order of the table.
-const TIMED: [&str; 8] =
-    ["copy", "check", "unfold", "check + unfold", "check + unfold, memory asked for", "the same from the file", "`second`", "GDAL"];
-
 /// The best times in milliseconds.
 struct Best([f64; TIMED.len()]);
 
 impl Best {
-    fn time(&mut self, which: usize, work: impl FnOnce()) {
+    fn time(&mut self, which: Timed, work: impl FnOnce()) {
         let start = milliseconds();
         work();
-        self.0[which] = self.0[which].min(milliseconds() - start);
+        let best = &mut self.0[which as usize];
+        *best = best.min(milliseconds() - start);
+    }
+
+    fn of(&self, which: Timed) -> f64 {
+        self.0[which as usize]
     }
 }
 
@@ -54,59 +92,158 @@ fn keep<T>(answer: T) {
     black_box(answer);
 }
 
-/// Into memory that was touched before.
-fn unfold(sheet: &[u8], table: &mut Table) {
-    keep(unfold_into(black_box(sheet), SETTING, &mut table.numbers, &mut table.elements, &mut table.bytes));
+/// Reads all bytes and does next to nothing with them. There are eight lanes so that no word waits for the one before it: what is waited
+/// for is the memory.
+fn look_at(bytes: &[u8]) -> u64 {
+    let mut lanes = [0; 8];
+    let (blocks, rest) = bytes.as_chunks::<64>();
+    for block in blocks {
+        for (lane, word) in lanes.iter_mut().zip(block.as_chunks().0) {
+            *lane ^= u64::from_le_bytes(*word);
+        }
+    }
+    lanes.into_iter().chain(rest.iter().map(|&byte| u64::from(byte))).fold(0, |all, word| all ^ word)
 }
 
-fn measure(gdal: &Gdal, sheet: &[u8], path: &str, points: usize) -> Best {
-    let sizes = sxf::check(sheet, SETTING).expect("the sheet is accepted");
-    let mut table = Table { numbers: vec![1; sizes.numbers], elements: vec![1; sizes.elements], bytes: vec![1; sizes.bytes] };
-    let mut copy = vec![1u8; sheet.len()];
+/// A sheet in memory and as a file, and memory that was touched before, for what is timed.
+struct Bench<'a> {
+    gdal: &'a Gdal,
+    sheet: &'a [u8],
+    path: &'a str,
+    points: usize,
+    sizes: Sizes,
+    copy: Vec<u8>,
+    table: Table,
+}
+
+impl<'a> Bench<'a> {
+    fn new(gdal: &'a Gdal, sheet: &'a [u8], path: &'a str, points: usize) -> Bench<'a> {
+        let sizes = sxf::check(sheet, SETTING).expect("the sheet is accepted");
+        let table = Table { numbers: vec![1; sizes.numbers], elements: vec![1; sizes.elements], bytes: vec![1; sizes.bytes] };
+        Bench { gdal, sheet, path, points, sizes, copy: vec![1; sheet.len()], table }
+    }
+
+    fn work(&mut self, which: Timed) {
+        match which {
+            Timed::Copy => self.copy(),
+            Timed::Floor => self.floor(),
+            Timed::Check => self.check(),
+            Timed::Unfold => self.unfold(),
+            Timed::CheckUnfold => {
+                self.check();
+                self.unfold();
+            }
+            Timed::AskedFor => keep(Table::unfold(black_box(self.sheet), SETTING)),
+            Timed::FromFile => keep(Table::unfold(&std::fs::read(self.path).expect("the sheet's file"), SETTING)),
+            Timed::SecondRead => self.second_read(),
+            Timed::SecondCheckRead => {
+                keep(second::check(black_box(self.sheet), SETTING.year()));
+                self.second_read();
+            }
+            Timed::Gdal => self.gdal(),
+        }
+    }
+
+    fn copy(&mut self) {
+        black_box(&mut self.copy).copy_from_slice(black_box(self.sheet));
+    }
+
+    /// About the least that two calls can take which each sum the sheet, and one of which unfolds it too. On long parts unfolding is a
+    /// copy, and one that comes after the sum: nothing may be written of a sheet that is refused.
+    fn floor(&mut self) {
+        keep(look_at(black_box(self.sheet)));
+        keep(look_at(black_box(self.sheet)));
+        self.copy();
+    }
+
+    fn check(&self) {
+        keep(sxf::check(black_box(self.sheet), SETTING));
+    }
+
+    fn unfold(&mut self) {
+        let Table { numbers, elements, bytes } = &mut self.table;
+        keep(unfold_into(black_box(self.sheet), SETTING, numbers, elements, bytes));
+    }
+
+    fn second_read(&self) {
+        keep(second::read(black_box(self.sheet), SETTING.year()));
+    }
+
+    fn gdal(&self) {
+        let (features, vertices) = self.gdal.run_through(self.path);
+        let records = self.sizes.records as u64;
+        assert_eq!((features, vertices), (records, records * self.points as u64), "GDAL has not read all");
+    }
+
+    /// What was timed has read the same bytes to the same table.
+    fn tables_agree(&self) {
+        assert!(self.copy == self.sheet, "the copy is another sheet");
+        let asked_for = Table::unfold(self.sheet, SETTING).expect("the sheet is unfolded");
+        assert!(asked_for == self.table, "memory asked for holds something else");
+        let reading = second::read(self.sheet, SETTING.year()).expect("`second` takes the sheet");
+        let second::Table { numbers, elements, bytes } = reading.table;
+        assert!(Table { numbers, elements, bytes } == self.table, "`second` reads something else");
+    }
+
+    /// Both checks have told the same sizes.
+    fn sizes_agree(&self) {
+        let second = second::check(self.sheet, SETTING.year()).expect("`second` takes the sheet");
+        let second = [second.sum, second.records, second.numbers, second.elements, second.bytes];
+        let Sizes { sum, records, numbers, elements, bytes } = self.sizes;
+        assert_eq!(
+            second.map(|size| size as usize),
+            [sum as usize, records, numbers, elements, bytes],
+            "`second` tells other sizes"
+        );
+    }
+}
+
+fn measure(bench: &mut Bench) -> Best {
     let mut best = Best([f64::MAX; TIMED.len()]);
     for round in 0..ROUNDS {
         for turn in 0..TIMED.len() {
-            let which = (round + turn) % TIMED.len();
-            best.time(which, || match which {
-                0 => black_box(&mut copy).copy_from_slice(black_box(sheet)),
-                1 => keep(sxf::check(black_box(sheet), SETTING)),
-                2 => unfold(sheet, &mut table),
-                3 => {
-                    keep(sxf::check(black_box(sheet), SETTING));
-                    unfold(sheet, &mut table);
-                }
-                4 => keep(Table::unfold(black_box(sheet), SETTING)),
-                5 => keep(Table::unfold(&std::fs::read(path).expect("the sheet's file"), SETTING)),
-                6 => keep(second::read(black_box(sheet), SETTING.year())),
-                _ => {
-                    let (features, vertices) = gdal.run_through(path);
-                    let records = sizes.records as u64;
-                    assert_eq!((features, vertices), (records, records * points as u64), "GDAL has not read all");
-                }
-            });
+            let (which, _) = TIMED[(round + turn) % TIMED.len()];
+            best.time(which, || bench.work(which));
         }
     }
-    let reading = second::read(sheet, SETTING.year()).expect("`second` takes the sheet");
-    assert!(reading.table.numbers == table.numbers && reading.table.elements == table.elements, "`second` reads something else");
+    bench.tables_agree();
+    bench.sizes_agree();
     best
+}
+
+fn row(cells: &[String]) {
+    println!("| {} |", cells.join(" | "));
+}
+
+fn print_heading() {
+    let names = ["points in a record", "records"].into_iter().chain(TIMED.map(|timed| timed.1)).chain(RATIOS.map(|ratio| ratio.0));
+    let names: Vec<String> = names.map(String::from).collect();
+    row(&names);
+    println!("|{}", "---|".repeat(names.len()));
+}
+
+/// More digits would not come out the same in another run.
+fn three_digits(ratio: f64) -> String {
+    let decimals = if ratio < 10.0 { 2 } else { 1 };
+    format!("{ratio:.decimals$}")
+}
+
+fn print_times(points: usize, records: usize, best: &Best) {
+    let times = TIMED.map(|(which, _)| format!("{:.1}", best.of(which)));
+    let ratios = RATIOS.map(|(_, of, to)| three_digits(best.of(of) / best.of(to)));
+    row(&[&[points.to_string(), records.to_string()][..], &times, &ratios].concat());
 }
 
 pub fn run(gdal: &Gdal) {
     let scratch = Scratch::new();
     let path = scratch.path("timed.sxf");
     println!("GDAL {}, best of {ROUNDS} rounds, milliseconds of processor time.\n", gdal.version());
-    println!(
-        "| points in a record | records | {} | GDAL / (check + unfold) | `second` / (check + unfold) | `second` / unfold |",
-        TIMED.join(" | ")
-    );
-    println!("|---|---|{}---|---|---|", "---|".repeat(TIMED.len()));
+    print_heading();
     for points in [65_000, 100, 10, 1] {
-        let bytes = sheet(points);
-        std::fs::write(&path, &bytes).expect("room for the sheet's file");
-        let Best(best) = measure(gdal, &bytes, &path, points);
-        let times = best.map(|time| format!("{time:.1}")).join(" | ");
-        let [_, _, unfold, both, _, _, second, theirs] = best;
-        let records = sxf::check(&bytes, SETTING).expect("the sheet is accepted").records;
-        println!("| {points} | {records} | {times} | {:.1} | {:.2} | {:.2} |", theirs / both, second / both, second / unfold);
+        let sheet = sheet(points);
+        std::fs::write(&path, &sheet).expect("room for the sheet's file");
+        let mut bench = Bench::new(gdal, &sheet, &path, points);
+        let best = measure(&mut bench);
+        print_times(points, bench.sizes.records, &best);
     }
 }
