@@ -1,17 +1,17 @@
 // The parts of a record's metric: the first part and the subobjects, each of points and perhaps a text.
-ghost use mathlib.Core.Bool.{cond, true};
+ghost use mathlib.Core.Bool.{true};
 ghost use mathlib.Core.Path.{_≡_};
 ghost use Prim.Native.Nat.{ℕ, _+_, _≤_, _<_, _^_};
 ghost use lib.ListN.{length};
 ghost use Rattle.checking.specs.Tally.{shown, tally, tallyOf, textTable, metricTable, Within};
 ghost use Rattle.layout.specs.Reading.Parts.{textWalk, partWalk, subobjectWalk, metricWalk};
-ghost use Rattle.layout.specs.Shared.Widths.{pointBytes};
 ghost use Rattle.layout.specs.Walk.{times, pair as pairOf};
 ghost use Rattle.layout.specs.Writing.Tables.{flattenPart, joined};
 use crate::tally::Counted;
 use crate::tally::Tally;
 use crate::tally::sum;
 use fields::numbers;
+use fields::shapes;
 use layout::Refusal;
 
 // A text: its length, its bytes and its closing zero.
@@ -67,37 +67,14 @@ pub fn text_end(xs: &[u8], p: usize, text: bool) -> Counted
     })
 }
 
-// How many bytes a point takes, by the size bit, the floating bit and the bit of three dimensions.
-fn point_bytes(size: bool, float: bool, three: bool) -> usize
-    ensures { λ r. ⌜ (r ≡ pointBytes size float three) × (r ≤ 24) ⌝ }
-{
-    if three {
-        if size {
-            return if float { 24 } else { 12 };
-        }
-        return if float { 12 } else { 8 };
-    }
-    if size {
-        return if float { 16 } else { 8 };
-    }
-    if float { 8 } else { 4 }
-}
-
-// How many elements a point has: X and Y, and in three dimensions a height.
-fn dimensions(three: bool) -> usize
-    ensures { λ r. ⌜ (r ≡ cond three 3 2) × (r ≤ 3) ⌝ }
-{
-    if three { 3 } else { 2 }
-}
-
 // So many points, and the text. A count is multiplied and never walked.
 pub fn part(xs: &[u8], p: usize, count: usize, b20: u8, b21: u8, b22: u8) -> Counted
     requires { ⌜ (p + length (now xs) < 2 ^ 32) × (count < 2 ^ 32) ⌝ }
     ensures means { λ r. ⌜ ((y : ℕ) → r ≡ shown (tally flattenPart) y (partWalk (record { byte20 = b20; byte21 = b21; byte22 = b22 }) count p (now (xs .entry)))) ⌝ }
     ensures within { λ r. ⌜ Within (length (now (xs .entry))) 2 r ⌝ }
 {
-    let three = b22 / 2 % 2 == 1;
-    let size = count * point_bytes(b21 / 4 % 2 == 1, b22 / 4 % 2 == 1, three);
+    let s = shapes::shape_of(b20, b21, b22);
+    let size = count * shapes::point_size(s);
     if xs.len() < size {
         return Counted::Refused(Refusal {
             number: 10,
@@ -105,8 +82,8 @@ pub fn part(xs: &[u8], p: usize, count: usize, b20: u8, b21: u8, b22: u8) -> Cou
             year: 0,
         });
     }
-    let elements = count * dimensions(three);
-    match text_end(&xs[size..], p + size, b22 / 8 % 2 == 1) {
+    let elements = shapes::elements_of(count, s.three);
+    match text_end(&xs[size..], p + size, s.text) {
         Counted::Fine(t) => Counted::Fine(Tally {
             used: size + t.used,
             numbers: 2,

@@ -1,5 +1,6 @@
 // The lists of checks that the reader and the writer share: the reference bytes of a record, the rest of the passport, and the four
 // carried bytes of the descriptor.
+ghost use mathlib.Core.Bool.{true};
 ghost use mathlib.Core.Path.{_≡_};
 ghost use Prim.Native.Nat.{ℕ, _+_, _≤_, _<_};
 ghost use lib.ListN.{length};
@@ -45,6 +46,14 @@ fn reference_rules(
     demand(a, !(b22 / 16 % 2 == 1), 9, place, m)
 }
 
+// Reference bytes that no check minds at any setting: of byte 21 only semantics and element size, of byte 22 only three dimensions and
+// floating. Most records have such bytes, and asking once takes a fifth of the instructions of asking check by check.
+fn plain(b20: u8, b21: u8, b22: u8) -> bool
+    ensures { λ r. ⌜ (r ≡ true → (k l m p y : ℕ) → Next Fine y p (referenceChecks k l m (record { byte20 = b20; byte21 = b21; byte22 = b22 })) Fine) ⌝ }
+{
+    ((b20 <= 5) & ((b21 < 8) & (b21 % 2 == 0))) & ((b22 < 8) & (b22 % 2 == 0))
+}
+
 // The step so far; then the reference bytes.
 pub fn reference(
     so_far: Step,
@@ -61,7 +70,12 @@ pub fn reference(
     ensures { λ r. ⌜ Next «so_far» year place (referenceChecks k l m (record { byte20 = b20; byte21 = b21; byte22 = b22 })) r ⌝ }
 {
     match so_far {
-        Step::Fine => reference_rules(b20, b21, b22, place, k, l, m, year),
+        Step::Fine => {
+            if plain(b20, b21, b22) {
+                return Step::Fine;
+            }
+            reference_rules(b20, b21, b22, place, k, l, m, year)
+        }
         Step::Refused(_) => so_far,
     }
 }

@@ -19,14 +19,14 @@ fn few(s: &[u8]) -> u32
     sum
 }
 
-// A block of 256 bytes: its sum fits 16 bits, and a sum in 16 bits is twice as fast as one in 32.
-fn block(s: &[u8], at: usize) -> u16
-    requires { ⌜ at + 256 ≤ length (now s) ⌝ }
-    ensures { λ r. ⌜ (r + total (drop (at + 256) (now (s .entry))) ≡ total (drop at (now (s .entry)))) × (r ≤ 65280) ⌝ }
+// A block of 64 bytes, which the compiler sums by four instructions of 16 bytes each.
+fn block(s: &[u8], at: usize) -> u32
+    requires { ⌜ at + 64 ≤ length (now s) ⌝ }
+    ensures { λ r. ⌜ (r + total (drop (at + 64) (now (s .entry))) ≡ total (drop at (now (s .entry)))) × (r ≤ 255 * 64) ⌝ }
 {
-    let mut sum: u16 = 0;
-    for i in 0..256 {
-        sum += s[at + i] as u16;
+    let mut sum: u32 = 0;
+    for i in 0..64 {
+        sum += s[at + i] as u32;
     }
     sum
 }
@@ -38,9 +38,9 @@ pub fn sum_of(s: &[u8]) -> u32
 {
     let mut sum: u32 = 0;
     let mut at: usize = 0;
-    while 256 <= s.len() - at {
-        sum += block(s, at) as u32;
-        at += 256;
+    while 64 <= s.len() - at {
+        sum += block(s, at);
+        at += 64;
     }
     sum + few(numbers::rest(s, at))
 }

@@ -1,6 +1,6 @@
 -- The ways out of a part and of a subobject, over plain variables.
-use mathlib.Core.Bool.{Bool, true, false, cond, _||_}
-use mathlib.Core.List.{List, [], _∷_}
+use mathlib.Core.Bool.{Bool, true, false, _||_}
+use mathlib.Core.List.{List}
 use mathlib.Core.Path.{_≡_, refl, sym, ap, _∙_}
 use Prim.Native.Nat.{ℕ, _+_, _-_, _*_, _≤_, _<_}
 use borrow.Author.Tests.{le-leb, lt-leb}
@@ -13,29 +13,27 @@ use Rattle.checking.specs.Tally.{tally, textTable, shown}
 use Rattle.checking.specs.declared.tally.Counted.{Counted}
 use Rattle.checking.specs.declared.tally.Counted.the-variants.{Fine, Refused}
 use Rattle.fields.proofs.Laws.{rest-is}
+use Rattle.fields.proofs.Widths.{widths-count}
+use Rattle.fields.specs.Shapes.{shapeOf, dimensions, pointOf}
+use Rattle.fields.specs.declared.shapes.Shape.{Shape}
 use Rattle.layout.specs.Answers.Enums.{refusal}
 use Rattle.layout.specs.Bytes.{number, numbers, repeat}
 use Rattle.layout.specs.Reading.Parts.{textWalk, partWalk, subobjectWalk}
 use Rattle.layout.specs.Shared.Reference.{elementSize, floating, threeDimensions, textInMetric}
-use Rattle.layout.specs.Shared.Widths.{planar, height, widths, pointSize, pointBytes}
+use Rattle.layout.specs.Shared.Widths.{widths, pointSize, pointBytes}
 use Rattle.layout.specs.Sheet.{Reference}
 use Rattle.layout.specs.Writing.Tables.{flattenPart}
 use Rattle.laws.proofs.Base.Numbers.{length-numbers, length-repeat}
 
-length-widths : (a b : ℕ) (three : Bool) (c : ℕ) → length (a ∷ b ∷ cond three (c ∷ []) []) ≡ cond three 3 2
-length-widths a b true c = refl
-length-widths a b false c = refl
-
 elements-are : (r : Reference) (count : ℕ) (xs : List ℕ)
-    → length (numbers (repeat count (widths r)) xs) ≡ count * cond (threeDimensions r) 3 2
+    → length (numbers (repeat count (widths r)) xs) ≡ count * dimensions (threeDimensions r)
 elements-are r count xs =
-    let w : ℕ = planar (elementSize r) (floating r) in
     length-numbers (repeat count (widths r)) xs
     ∙ length-repeat count (widths r)
-    ∙ ap (λ k. count * k) (length-widths w w (threeDimensions r) (height w))
+    ∙ ap (λ k. count * k) (widths-count (elementSize r) (floating r) (threeDimensions r))
 
 -- a point has no more elements than bytes
-point-over : (size float three : Bool) → cond three 3 2 ≤ pointBytes size float three
+point-over : (size float three : Bool) → dimensions three ≤ pointBytes size float three
 point-over false false false = omega arith
 point-over false true false = omega arith
 point-over true false false = omega arith
@@ -45,23 +43,27 @@ point-over false true true = omega arith
 point-over true false true = omega arith
 point-over true true true = omega arith
 
-pub elements-within : (r : Reference) (count a b : ℕ) → a ≡ pointSize r → b ≡ cond (threeDimensions r) 3 2 → count * b ≤ count * a
-elements-within r count a b e f = rw (e, f) (mul-le-mul-left count (point-over (elementSize r) (floating r) (threeDimensions r)))
+pub elements-within : (s : Shape) (count k elements : ℕ) → k ≡ pointOf s → elements ≡ count * dimensions (s .three) → elements ≤ count * k
+elements-within s count k elements e f = rw (f, e) (mul-le-mul-left count (point-over (s .size) (s .float) (s .three)))
 
-module _ (y p count size : ℕ) (xs : List ℕ) (r : Reference) (s : size ≡ count * pointSize r) where
+-- so many points of a shape s, each of so many bytes
+module _ (y p count size : ℕ) (xs : List ℕ) (r : Reference) (s : Shape) (is : s ≡ shapeOf r) (k : ℕ) (point : k ≡ pointOf s) (e : size ≡ count * k) where
+  size-is : size ≡ count * pointSize r
+  size-is = e ∙ ap (λ u. count * u) (point ∙ ap pointOf is)
+
   pub part-short : length xs < size → Refused (refusal 10 p 0) ≡ shown (tally flattenPart) y (partWalk r count p xs)
   unfolding partWalk
-  part-short h = simp (← s, lt-leb size (length xs) h, add-zero)
+  part-short h = simp (← size-is, lt-leb size (length xs) h, add-zero)
 
-  pub part-then : size ≤ length xs → (elements : ℕ) → elements ≡ count * cond (threeDimensions r) 3 2
-      → (k : Counted) → k ≡ shown (tally textTable) y (textWalk (textInMetric r) (p + size) (take (length xs - size) (drop size xs)))
+  pub part-then : size ≤ length xs → (elements : ℕ) → elements ≡ count * dimensions (s .three)
+      → (k : Counted) → k ≡ shown (tally textTable) y (textWalk (s .text) (p + size) (take (length xs - size) (drop size xs)))
       → next k (λ t. Fine (record { used = size + t .used; numbers = 2; elements = elements; bytes = t .bytes }))
       ≡ shown (tally flattenPart) y (partWalk r count p xs)
   unfolding partWalk flattenPart
-  part-then l elements e k g =
-      simp (← s, le-leb size (length xs) l, g, rest-is)
+  part-then l elements f k g =
+      simp (← size-is, le-leb size (length xs) l, g, rest-is, ap (λ (u : Shape). u .text) is)
       (sym (shown-bind y (tally textTable) (tally flattenPart) (textWalk (textInMetric r) (p + size) (drop size xs)) _ _
-      (λ a. rw (elements-are r count xs, e) refl)))
+      (λ a. rw (elements-are r count xs, f, is) refl)))
 
 module _ (y p : ℕ) (xs : List ℕ) (r : Reference) (marked : Bool) where
   pub subobject-short : length xs < 4 → Refused (refusal 10 p 0) ≡ shown (tally flattenPart) y (subobjectWalk r marked p xs)

@@ -5,11 +5,16 @@ use Rattle.fields.proofs.flags.reference.Statement.{statement}
 use Rattle.fields.proofs.flags.reference.Tie as tie
 
 returns : tie.Need-returns
-returns c = rw (c .before .enum-told .given .1) (c .reference-rules .ensures)
+returns c = rw (c .before .before .enum-told .given .1) (c .before .plain .ensures (c .if1 .taken) _ _ _ _ _)
 
 returns-2 : tie.Need-returns-2
+returns-2 c = rw (c .before .before .before .enum-told .given .1) (c .reference-rules .ensures)
+
+returns-3 : tie.Need-returns-3
 unfolding afterOf
-returns-2 c = rw (c .enum-told2 .given .1) record { is = refl }
+returns-3 c = rw (c .enum-told2 .given .1) record { is = refl }
 
 pub reference-spec : {M : Type 1} → statement M
-reference-spec = tie.close (tie.spec (λ c. search needs) (λ c κs. search needs) (λ c. search needs) returns returns-2)
+reference-spec =
+    tie.close
+    (tie.spec (λ c. search needs) (λ c κs. search needs) returns (λ c κs. search needs) (λ c. search needs) returns-2 returns-3)

@@ -10,10 +10,10 @@ use Rattle.fields.proofs.sums.block.Statement.{statement}
 use Rattle.fields.proofs.sums.block.Tie as tie
 
 abbrev Inv-loop : tie.InvT-loop
-Inv-loop s at sum₀ i₀ sum i = (i ≤ 256) × (sum + total (drop (at + i) s) ≡ total (drop at s)) × (sum ≤ 255 * i)
+Inv-loop s at sum₀ i₀ sum i = (i ≤ 64) × (sum + total (drop (at + i) s) ≡ total (drop at s)) × (sum ≤ 255 * i)
 
 abbrev μ-loop : tie.MeasureT-loop
-μ-loop s at sum₀ i₀ sum i = 256 - i
+μ-loop s at sum₀ i₀ sum i = 64 - i
 
 loop-holds : tie.Need-loop-holds Inv-loop μ-loop
 loop-holds c = (omega arith, simp (add-zero, zero-add), omega arith)
@@ -39,7 +39,7 @@ returns c =
     let s = now (c .before .before .args .s) in
     let at = c .before .before .args .at in
     let i = c .before .loop .i in
-    let done : i ≡ 256 = omega arith in
+    let done : i ≡ 64 = omega arith in
     omega (arith, ap (λ n. total (drop (at + n) s)) done)
 
 pub block-spec : {M : Type 1} → statement M

@@ -45,7 +45,6 @@ sum-of-spec =
     (λ c. omega arith)
     (λ c. omega arith)
     (λ c. omega arith)
-    (λ c. omega arith)
     (λ c κs. omega arith)
     few-requires
     add-result
