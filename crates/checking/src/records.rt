@@ -1,9 +1,12 @@
 // Records: header, metric, semantics.
 ghost use mathlib.Core.Path.{_≡_};
-ghost use Prim.Native.Nat.{_+_, _<_, _^_};
+ghost use Prim.Native.Nat.{_+_, _*_, _≤_, _<_, _^_};
 ghost use lib.ListN.{length};
 ghost use Rattle.checking.specs.Records.{Passed, restWalk, semanticsOf};
 ghost use Rattle.checking.specs.Tally.{shown, tally, Within, WithinT};
+ghost use Rattle.fields.specs.Sums.{SummedIn};
+ghost use Rattle.layout.specs.Bytes.{total};
+ghost use Rattle.layout.specs.Fields.{limit};
 ghost use Rattle.layout.specs.Reading.Records.{recordWalk};
 ghost use Rattle.layout.specs.Walk.{times};
 ghost use Rattle.layout.specs.Writing.Tables.{joined, flattenRecord};
@@ -17,6 +20,8 @@ use crate::tally::sum;
 use fields::records::first_count;
 use fields::steps;
 use fields::steps::Step;
+use fields::sums::Summed;
+use fields::sums::sum_past;
 use layout::Refusal;
 
 // What fills a record after its metric, where front is counted before it.
@@ -120,4 +125,63 @@ pub fn records(xs: &[u8], p: usize, n: u32, year: u32) -> Counted
         left -= 1;
     }
     Counted::Fine(acc)
+}
+
+pub struct Walked {
+    pub counted: Counted,
+    pub sum: u32,
+}
+
+// What was counted, with the sum of all bytes.
+fn with_sum(xs: &[u8], summed: Summed, counted: Counted) -> Walked
+    requires { ⌜ SummedIn (now xs) summed × (length (now xs) ≤ limit) ⌝ }
+    ensures { λ r. ⌜ (r .counted ≡ counted) × (r .sum ≡ total (now (xs .entry))) × (r .sum ≤ 255 * length (now (xs .entry))) ⌝ }
+{
+    Walked {
+        counted,
+        sum: sum_past(xs, summed, xs.len()).sum,
+    }
+}
+
+// 64 records, or those that are left.
+fn batch(left: u32) -> u32
+    requires { ⌜ 0 < left ⌝ }
+    ensures { λ r. ⌜ (r ≤ left) × (0 < r) ⌝ }
+{
+    if left < 64 {
+        return left;
+    }
+    64
+}
+
+// So many records, and the sum of all bytes, in one pass: the sum goes ahead, and a batch of records is checked behind it while their
+// bytes are still near.
+pub fn walk(xs: &[u8], p: usize, n: u32, year: u32) -> Walked
+    requires { ⌜ (p + length (now xs) < 2 ^ 32) × (length (now xs) ≤ limit) ⌝ }
+    ensures means { λ r. ⌜ r .counted ≡ shown (tally (joined flattenRecord)) year (times n recordWalk p (now (xs .entry))) ⌝ }
+    ensures sums { λ r. ⌜ (r .sum ≡ total (now (xs .entry))) × (r .sum ≤ 255 * length (now (xs .entry))) ⌝ }
+{
+    let mut left = n;
+    let mut summed = Summed { sum: 0, to: 0 };
+    let mut acc = Tally {
+        used: 0,
+        numbers: 0,
+        elements: 0,
+        bytes: 0,
+    };
+    while 0 < left {
+        let at = acc.used;
+        summed = sum_past(xs, summed, at);
+        let some = batch(left);
+        match records(&xs[at..], p + at, some, year) {
+            Counted::Fine(z) => {
+                acc = sum(acc, z);
+            }
+            Counted::Refused(r) => {
+                return with_sum(xs, summed, Counted::Refused(r));
+            }
+        }
+        left -= some;
+    }
+    with_sum(xs, summed, Counted::Fine(acc))
 }

@@ -1,18 +1,20 @@
 // The sheet: passport and descriptor, then the records.
 ghost use mathlib.Core.List.{[], _∷_};
 ghost use mathlib.Core.Path.{_≡_};
-ghost use Prim.Native.Nat.{ℕ, _+_, _≤_, _<_};
+ghost use Prim.Native.Nat.{ℕ, _+_, _*_, _≤_, _<_};
 ghost use lib.Dec.{eqb};
 ghost use lib.ListN.{length, take, drop};
-ghost use Rattle.checking.specs.Sheets.{headRules, Headed};
+ghost use Rattle.checking.specs.Sheets.{headRules, Headed, recordsIn};
+ghost use Rattle.checking.specs.Tally.{shown, tally};
 ghost use Rattle.fields.specs.Steps.{Next};
 ghost use Rattle.fields.specs.declared.steps.Step.the-variants.{Fine};
 ghost use Rattle.layout.specs.Answers.Enums.{checkedOf};
-ghost use Rattle.layout.specs.Bytes.{number};
+ghost use Rattle.layout.specs.Bytes.{number, total};
 ghost use Rattle.layout.specs.Fields.{limit};
 ghost use Rattle.layout.specs.Reading.Sheets.{sumOf, passportChecks, sheetWalk};
 ghost use Rattle.layout.specs.Shared.Texts.{isTextField};
 ghost use Rattle.layout.specs.Walk.{must, answer, upTo};
+ghost use Rattle.layout.specs.Writing.Tables.{joined, flattenRecord};
 use crate::records;
 use crate::tally::Counted;
 use fields::flags;
@@ -47,39 +49,35 @@ fn text(so_far: Step, s: &[u8], p: usize, n: usize) -> Step
     )
 }
 
-// The sum. It is dear, so it is not asked for once there is a refusal.
-fn sum_stands(so_far: Step, s: &[u8]) -> Step
-    requires { ⌜ (16 ≤ length (now s)) × (length (now s) ≤ limit) ⌝ }
-    ensures { λ r. ⌜ ((y : ℕ) → Next «so_far» y 0 (must (eqb (number 4 (drop 12 (now (s .entry)))) (sumOf (now (s .entry)))) 5 12 ∷ []) r) ⌝ }
+// The sum of passport and descriptor, without the four bytes that state the sum.
+fn head_sum(s: &[u8]) -> u32
+    requires { ⌜ (452 ≤ length (now s)) × (length (now s) ≤ limit) ⌝ }
+    ensures { λ r. ⌜ (r + total (drop 452 (now (s .entry))) ≡ sumOf (now (s .entry))) × (r ≤ 255 * 452) ⌝ }
 {
-    match so_far {
-        Step::Fine => {
-            let stated = numbers::u32_at(s, 12);
-            demand(Step::Fine, stated == sums::sheet_sum(s), 5, 0, 12)
-        }
-        Step::Refused(_) => so_far,
-    }
+    let front = sums::sum_of(numbers::part(s, 0, 12));
+    let back = sums::sum_of(numbers::part(s, 16, 436));
+    front + back
 }
 
-fn check_passport(s: &[u8]) -> Step
-    requires { ⌜ (452 ≤ length (now s)) × (length (now s) ≤ limit) ⌝ }
+fn check_passport(s: &[u8], sum: u32) -> Step
+    requires { ⌜ (452 ≤ length (now s)) × (sum ≡ sumOf (now s)) ⌝ }
     ensures { λ r. ⌜ ((y : ℕ) → Next Fine y 0 (passportChecks (now (s .entry))) r) ⌝ }
 {
     let a = fixed(Step::Fine, s, 0, 0x00465853, 3);
     let a = fixed(a, s, 4, 400, 4);
     let a = fixed(a, s, 8, 0x00040000, 4);
-    let a = sum_stands(a, s);
+    let a = fixed(a, s, 12, sum, 5);
     let a = text(a, s, 16, 12);
     let a = text(a, s, 28, 32);
     text(a, s, 64, 32)
 }
 
-// All checks on passport and descriptor.
-fn check_head(s: &[u8], year: u32) -> Step
-    requires { ⌜ (452 ≤ length (now s)) × (length (now s) ≤ limit) ⌝ }
+// All checks on passport and descriptor of a sheet with that sum.
+fn check_head(s: &[u8], sum: u32, year: u32) -> Step
+    requires { ⌜ (452 ≤ length (now s)) × (sum ≡ sumOf (now s)) ⌝ }
     ensures { λ r. ⌜ Next Fine year 0 (headRules (now (s .entry))) r ⌝ }
 {
-    let a = check_passport(s);
+    let a = check_passport(s, sum);
     let a = flags::rest_of_passport(a, numbers::part(s, 96, 304), year);
     let a = fixed(a, s, 400, 0x00544144, 3);
     let a = fixed(a, s, 404, 52, 4);
@@ -88,13 +86,12 @@ fn check_head(s: &[u8], year: u32) -> Step
     demand(a, texts::all_zero(numbers::part(s, 448, 4)), 7, 0, 448)
 }
 
-// The records of a sheet whose head was let through.
-fn check_records(s: &[u8], year: u32) -> Checked
-    requires { ⌜ Headed (now s) year ⌝ }
+// A sheet whose head was let through, with what was counted of its records.
+fn check_records(s: &[u8], counted: Counted, year: u32) -> Checked
+    requires { ⌜ Headed (now s) year × (counted ≡ shown (tally (joined flattenRecord)) year (recordsIn (now s))) ⌝ }
     ensures { λ r. ⌜ r ≡ checkedOf (answer (upTo year) (sheetWalk (now (s .entry)))) ⌝ }
 {
-    let count = numbers::u32_at(s, 440);
-    match records::records(&s[452..], 452, count, year) {
+    match counted {
         Counted::Fine(t) => {
             let used = t.used;
             if used < s.len() - 452 {
@@ -106,13 +103,27 @@ fn check_records(s: &[u8], year: u32) -> Checked
             }
             Checked::Accepted(Sizes {
                 sum: numbers::u32_at(s, 12),
-                records: count,
+                records: numbers::u32_at(s, 440),
                 numbers: t.numbers,
                 elements: t.elements,
                 bytes: t.bytes,
             })
         }
         Counted::Refused(r) => Checked::Refused(r),
+    }
+}
+
+// A sheet that is neither too long nor too short. Its records are walked before the checks on its head, since the sum, which the head
+// states, is of all bytes: so the sheet is gone over once.
+fn check_whole(s: &[u8], year: u32) -> Checked
+    requires { ⌜ (452 ≤ length (now s)) × (length (now s) ≤ limit) ⌝ }
+    ensures { λ r. ⌜ r ≡ checkedOf (answer (upTo year) (sheetWalk (now (s .entry)))) ⌝ }
+{
+    let walked = records::walk(&s[452..], 452, numbers::u32_at(s, 440), year);
+    let counted = walked.counted;
+    match check_head(s, head_sum(s) + walked.sum, year) {
+        Step::Fine => check_records(s, counted, year),
+        Step::Refused(r) => Checked::Refused(r),
     }
 }
 
@@ -134,8 +145,5 @@ pub fn check_sheet(s: &[u8], year: u32) -> Checked
             year: 0,
         });
     }
-    match check_head(s, year) {
-        Step::Fine => check_records(s, year),
-        Step::Refused(r) => Checked::Refused(r),
-    }
+    check_whole(s, year)
 }

@@ -1,15 +1,15 @@
 -- Lists by a place in them: what stands at the place, and what comes after it. For code that reads `s[i]`.
 use mathlib.Core.Bool.{Bool, true, false}
 use mathlib.Core.List.{List, [], _∷_}
-use mathlib.Core.Path.{_≡_, refl, _∙_}
+use mathlib.Core.Path.{_≡_, refl, sym, ap, _∙_}
 use Prim.Native.Nat.{ℕ, zero, suc, _+_, _*_, _-_, _^_, _<_, _≤_}
 use borrow.Author.Tests.{eq-eqb, ne-eqb, lt-ltb, le-ltb}
-use lib.ListN.{length, getD, take, drop, drop-of-length-le, length-drop}
+use lib.ListN.{length, getD, take, drop, drop-of-length-le, length-drop, take-append-drop}
 use lib.Seq.{drop-drop, drop-nil, drop-cons, take-all, length-take-le}
 use native.Mathlib.Nat.{mul-zero, zero-add, suc-add, pow-succ', pow-zero, mul-add, mul-assoc, add-assoc, one-mul}
 use native.Mathlib.Numerals.{add-one}
 use native.Mathlib.Omega.{arith}
-use Rattle.laws.proofs.Base.Numbers.{number-nil}
+use Rattle.laws.proofs.Base.Numbers.{number-nil, total-append}
 use Rattle.layout.specs.Bytes.{number, total, zeros}
 use Rattle.layout.specs.Shared.Texts.{textOf, isTextField}
 
@@ -34,6 +34,13 @@ total-step s i h = simp (add-one, drop-cons s i 0 h)
 -- the same, i bytes after a place
 pub total-next : (s : List ℕ) (at i : ℕ) → at + i < length s → total (drop (at + i) s) ≡ getD s (at + i) 0 + total (drop (at + (i + 1)) s)
 total-next s at i h = rw (← add-assoc at i 1) (total-step s (at + i) h)
+
+-- a sum in two pieces
+pub total-cut : (n : ℕ) (s : List ℕ) → total (take n s) + total (drop n s) ≡ total s
+total-cut n s = sym (total-append (take n s) (drop n s)) ∙ ap total (take-append-drop n s)
+
+pub total-on : (s : List ℕ) (at n : ℕ) → total (take n (drop at s)) + total (drop (at + n) s) ≡ total (drop at s)
+total-on s at n = rw (← (drop-drop n at s)) (total-cut n (drop at s))
 
 pub total-end : (s : List ℕ) (i : ℕ) → length s ≤ i → total (drop i s) ≡ 0
 total-end s i h = simp (drop-of-length-le s h)

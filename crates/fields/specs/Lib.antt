@@ -2,3 +2,4 @@
 pub mod Steps
 pub mod Flags
 pub mod Shapes
+pub mod Sums

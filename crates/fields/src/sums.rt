@@ -2,6 +2,7 @@
 ghost use mathlib.Core.Path.{_≡_};
 ghost use Prim.Native.Nat.{_+_, _*_, _≤_};
 ghost use lib.ListN.{length, drop};
+ghost use Rattle.fields.specs.Sums.{SummedIn};
 ghost use Rattle.layout.specs.Bytes.{total};
 ghost use Rattle.layout.specs.Fields.{limit};
 ghost use Rattle.layout.specs.Reading.Sheets.{sumOf};
@@ -43,6 +44,40 @@ pub fn sum_of(s: &[u8]) -> u32
         at += 64;
     }
     sum + few(numbers::rest(s, at))
+}
+
+// A sum on its way: the bytes before `to` add up to it.
+pub struct Summed {
+    pub sum: u32,
+    pub to: usize,
+}
+
+// The sum goes on by n bytes.
+fn sum_on(s: &[u8], so_far: Summed, n: usize) -> Summed
+    requires { ⌜ SummedIn (now s) «so_far» × («so_far» .to + n ≤ length (now s)) × (length (now s) ≤ limit) ⌝ }
+    ensures { λ r. ⌜ SummedIn (now (s .entry)) r × (r .to ≡ «so_far» .to + n) ⌝ }
+{
+    Summed {
+        sum: so_far.sum + sum_of(numbers::part(s, so_far.to, n)),
+        to: so_far.to + n,
+    }
+}
+
+// The sum goes on past a place that it has not passed yet, by a stretch that fits near memory, so that who reads on from that place finds
+// the bytes there. At the end of the bytes it is whole.
+pub fn sum_past(s: &[u8], so_far: Summed, at: usize) -> Summed
+    requires { ⌜ SummedIn (now s) «so_far» × (at ≤ length (now s)) × (length (now s) ≤ limit) ⌝ }
+    ensures { λ r. ⌜ SummedIn (now (s .entry)) r × (at ≤ r .to) ⌝ }
+{
+    if at < so_far.to {
+        return so_far;
+    }
+    let left = s.len() - so_far.to;
+    let stretch = at - so_far.to + 131072;
+    if stretch < left {
+        return sum_on(s, so_far, stretch);
+    }
+    sum_on(s, so_far, left)
 }
 
 pub fn sheet_sum(s: &[u8]) -> u32

@@ -1,12 +1,12 @@
 -- The loop over pieces one after another, once for all such loops: the invariant `Same`, where it starts, a turn of it, its two ways out.
 use mathlib.Core.List.{List}
-use mathlib.Core.Path.{_≡_, refl, sym, _∙_}
+use mathlib.Core.Path.{_≡_, refl, sym, ap, _∙_}
 use Prim.Native.Nat.{ℕ, zero, suc, _+_, _-_, _^_, _≤_, _<_}
 use lib.ListN.{length, take, drop, length-drop}
 use lib.Seq.{drop-drop}
 use native.Mathlib.Nat.{add-assoc, add-zero}
 use native.Mathlib.Omega.{arith}
-use Rattle.checking.proofs.Laws.Shown.{next, plus, plus-plus, plus-none, times-shown}
+use Rattle.checking.proofs.Laws.Shown.{next, plus, plus-plus, plus-none, times-shown, times-split}
 use Rattle.checking.specs.Tally.{none, add, tally, shown, Small, Within, WithinT}
 use Rattle.checking.specs.declared.tally.Counted.{Counted}
 use Rattle.checking.specs.declared.tally.Counted.the-variants.{Fine, Refused}
@@ -49,22 +49,28 @@ module _ {A : Type 0} (f : A → Table) (r : Reader A) (p : ℕ) (xs : List ℕ)
   rest-done zero acc h = simp add-zero
   rest-done (suc m) acc h = absurd (omega arith)
 
+  -- what comes after v, with the counts of v added to acc
+  rest-after : (m : ℕ) (acc : Tally) (v : Counted)
+      → plus acc (next v (λ z. plus z (shown (tally (joined f)) y (times m r (p + acc .used + z .used) (drop (z .used) (drop (acc .used) xs))))))
+      ≡ next v (λ z. Rest m (add acc z))
+  rest-after m acc (Fine z) =
+      simp (add-assoc, drop-drop)
+      (sym (plus-plus acc z (shown (tally (joined f)) y (times m r (p + (acc .used + z .used)) (drop (acc .used + z .used) xs)))))
+  rest-after m acc (Refused q) = refl
+
   rest-suc : (m : ℕ) (acc : Tally) (k : Counted) → k ≡ shown (tally f) y (r (p + acc .used) (drop (acc .used) xs))
       → Rest (suc m) acc ≡ next k (λ z. Rest m (add acc z))
-  rest-suc m acc k e = rw (times-shown y f r m (p + acc .used) (drop (acc .used) xs), ← e) (go k)
-    where
-      go : (k : Counted)
-          → plus acc (next k (λ z. plus z (shown (tally (joined f)) y (times m r (p + acc .used + z .used) (drop (z .used) (drop (acc .used) xs))))))
-          ≡ next k (λ z. Rest m (add acc z))
-      go (Fine z) =
-          simp (add-assoc, drop-drop)
-          (sym (plus-plus acc z (shown (tally (joined f)) y (times m r (p + (acc .used + z .used)) (drop (acc .used + z .used) xs)))))
-      go (Refused q) = refl
+  rest-suc m acc k e = rw (times-shown y f r m (p + acc .used) (drop (acc .used) xs), ← e) (rest-after m acc k)
 
   rest-turn : (left : ℕ) (acc : Tally) (k : Counted) → 0 < left → k ≡ shown (tally f) y (r (p + acc .used) (drop (acc .used) xs))
       → Rest left acc ≡ next k (λ z. Rest (left - 1) (add acc z))
   rest-turn zero acc k h e = absurd (omega arith)
   rest-turn (suc m) acc k h e = let q : suc m - 1 ≡ m = omega arith in rw q (rest-suc m acc k e)
+
+  -- k pieces at once
+  rest-batch : (k m : ℕ) (acc : Tally) (v : Counted) → v ≡ shown (tally (joined f)) y (times k r (p + acc .used) (drop (acc .used) xs))
+      → Rest (k + m) acc ≡ next v (λ z. Rest m (add acc z))
+  rest-batch k m acc v e = rw (times-split y f r k m (p + acc .used) (drop (acc .used) xs), ← e) (rest-after m acc v)
 
 module _ {A : Type 0} (f : A → Table) (r : Reader A) (n p : ℕ) (xs : List ℕ) (y : ℕ) where
   -- with left of the n to go, and acc the counts of those behind, the answer of the whole is the answer of the rest with acc added
@@ -88,6 +94,20 @@ module _ {A : Type 0} (f : A → Table) (r : Reader A) (n p : ℕ) (xs : List �
 
     pub same-turn : (z : Tally) → k ≡ Fine z → (acc′ : Tally) → acc′ ≡ add acc z → Same (left - 1) acc′
     same-turn z e acc′ a = rw a (record { eq = rw e at turn })
+
+  -- v is what a function answers of the next k pieces
+  module _ (left : ℕ) (acc : Tally) (g : Same left acc) (k : ℕ) (h : k ≤ left) (v : Counted)
+      (means : v ≡ shown (tally (joined f)) y (times k r (p + acc .used) (take (length xs - acc .used) (drop (acc .used) xs)))) where
+    batch : shown (tally (joined f)) y (times n r p xs) ≡ next v (λ z. Rest f r p xs y (left - k) (add acc z))
+    batch =
+        let e : left ≡ k + (left - k) = omega arith in
+        g .eq ∙ ap (λ i. Rest f r p xs y i acc) e ∙ rest-batch f r p xs y k (left - k) acc v (rw rest-is at means)
+
+    pub batch-stop : (q : Refusal) → v ≡ Refused q → Refused q ≡ shown (tally (joined f)) y (times n r p xs)
+    batch-stop q e = sym (rw e at batch)
+
+    pub batch-turn : (z : Tally) → v ≡ Fine z → (acc′ : Tally) → acc′ ≡ add acc z → Same (left - k) acc′
+    batch-turn z e acc′ a = rw a (record { eq = rw e at batch })
 
 -- more bytes at hand
 pub within-more : (a b e : ℕ) (r : Counted) → a ≤ b → Within a e r → Within b e r

@@ -8,7 +8,7 @@ use lib.Dec.{leb}
 use lib.ListN.{length, take, drop, length-drop}
 use native.Mathlib.Nat.{add-zero}
 use native.Mathlib.Omega.{arith}
-use Rattle.checking.specs.Sheets.{headRules, Headed}
+use Rattle.checking.specs.Sheets.{headRules, Headed, recordsIn}
 use Rattle.checking.specs.Tally.{tally, tallyOf, countedOf, shown}
 use Rattle.checking.specs.declared.tally.Counted.{Counted}
 use Rattle.checking.specs.declared.tally.Counted.the-variants.{Fine, Refused}
@@ -98,13 +98,15 @@ module _ (y : ℕ) (s : List ℕ) where
   unfolding sheetWalk sizeChecks checkedOf
   sheet-short h i = simp (le-leb (length s) limit h, lt-leb 452 (length s) i)
 
-module _ (y : ℕ) (s : List ℕ) (H : Headed s y) (n : ℕ) (c : n ≡ number 4 (drop 440 s)) (k : Counted)
-    (means : k ≡ shown (tally (joined flattenRecord)) y (times n recordWalk 452 (take (length s - 452) (drop 452 s)))) where
-  abbrev records : Walk (Piece (List Record))
-  records = times (number 4 (drop 440 s)) recordWalk 452 (drop 452 s)
+-- what walking the records of the slice from 452 on counts
+pub walked-here : (y : ℕ) (s : List ℕ) (n : ℕ) → n ≡ number 4 (drop 440 s) → (k : Counted)
+    → k ≡ shown (tally (joined flattenRecord)) y (times n recordWalk 452 (take (length s - 452) (drop 452 s)))
+    → k ≡ shown (tally (joined flattenRecord)) y (recordsIn s)
+walked-here y s n c k means = rw (rest-is, c) at means
 
-  here : k ≡ shown (tally (joined flattenRecord)) y records
-  here = rw (rest-is, c) at means
+module _ (y : ℕ) (s : List ℕ) (H : Headed s y) (k : Counted) (here : k ≡ shown (tally (joined flattenRecord)) y (recordsIn s)) where
+  abbrev records : Walk (Piece (List Record))
+  records = recordsIn s
 
   on : answer (upTo y) (sheetWalk s) ≡ answer (upTo y) (tail s)
   on = ap (answer (upTo y)) (halves s (H .short) (H .long)) ∙ bind-on (upTo y) (checks 0 (headRules s)) (λ _. tail s) tt (H .head)
@@ -127,9 +129,9 @@ module _ (y : ℕ) (s : List ℕ) (H : Headed s y) (n : ℕ) (c : n ≡ number 4
         let t : leb (length (drop 452 s)) (v .0 .size) ≡ false = lt-leb (length (drop 452 s)) (v .0 .size) (omega (arith, u, length-drop 452 s)) in
         whole-refused (refusal 13 (452 + z .used) 0) (bind-on (upTo y) records _ (v .0) (v .1) ∙ rw (t, u) (simp add-zero))
 
-    pub sheet-fine : Bytes s → length s - 452 ≤ z .used → (sum : ℕ) → sum ≡ number 4 (drop 12 s)
+    pub sheet-fine : Bytes s → length s - 452 ≤ z .used → (sum : ℕ) → sum ≡ number 4 (drop 12 s) → (n : ℕ) → n ≡ number 4 (drop 440 s)
         → Check.Accepted (record { sum = sum; records = n; numbers = z .numbers; elements = z .elements; bytes = z .bytes }) ≡ checkedOf (answer (upTo y) (sheetWalk s))
-    sheet-fine b h sum f =
+    sheet-fine b h sum f n c =
         let v = counted-fine (tally (joined flattenRecord)) (answer (upTo y) records) z (sym here ∙ e) in
         let u : v .0 .size ≡ z .used = ap (λ (t : Tally). t .used) (v .2) in
         let t : leb (length (drop 452 s)) (v .0 .size) ≡ true = le-leb (length (drop 452 s)) (v .0 .size) (omega (arith, u, length-drop 452 s)) in

@@ -5,7 +5,7 @@ use mathlib.Core.Path.{_≡_, refl, sym, ap, _∙_}
 use Prim.Native.Nat.{ℕ, zero, suc, _+_, _-_, _≤_, _<_}
 use lib.ListN.{length, take, drop, length-append}
 use lib.Seq.{drop-drop}
-use native.Mathlib.Nat.{zero-add, add-assoc, add-zero}
+use native.Mathlib.Nat.{zero-add, suc-add, add-assoc, add-zero}
 use native.Mathlib.Omega.{arith}
 use Rattle.checking.specs.Tally.{none, add, tallyOf, tally, countedOf, shown}
 pub use Rattle.checking.specs.Tally.{next, plus}
@@ -64,3 +64,29 @@ module _ {A : Type 0} (y : ℕ) (f : A → Table) (r : Reader A) where
   pub times-shown : (n p : ℕ) (xs : List ℕ) → shown (tally (joined f)) y (times (suc n) r p xs)
       ≡ next (shown (tally f) y (r p xs)) (λ z. plus z (shown (tally (joined f)) y (times n r (p + z .used) (drop (z .used) xs))))
   times-shown n p xs = shown-bind y (tally f) (tally (joined f)) (r p xs) _ _ (λ a. cons-shown a (times n r (p + a .size) (drop (a .size) xs)))
+
+  -- the same for k pieces and then m others
+  pub times-split : (k m p : ℕ) (xs : List ℕ) → shown (tally (joined f)) y (times (k + m) r p xs)
+      ≡ next (shown (tally (joined f)) y (times k r p xs)) (λ z. plus z (shown (tally (joined f)) y (times m r (p + z .used) (drop (z .used) xs))))
+  times-split zero m p xs = simp (zero-add, add-zero) (sym (plus-none (shown (tally (joined f)) y (times m r p xs))))
+  times-split (suc k) m p xs =
+      rw (suc-add k m, times-shown (k + m) p xs, times-shown k p xs) (first (shown (tally f) y (r p xs)) (λ z. times-split k m (p + z .used) (drop (z .used) xs)))
+    where
+      others : (z : Tally) (v : Counted)
+          → plus z (next v (λ w. plus w (shown (tally (joined f)) y (times m r (p + z .used + w .used) (drop (w .used) (drop (z .used) xs))))))
+          ≡ next (plus z v) (λ w. plus w (shown (tally (joined f)) y (times m r (p + w .used) (drop (w .used) xs))))
+      others z (Fine w) =
+          simp (add-assoc, drop-drop)
+          (sym (plus-plus z w (shown (tally (joined f)) y (times m r (p + (z .used + w .used)) (drop (z .used + w .used) xs)))))
+      others z (Refused q) = refl
+
+      first : (v : Counted)
+          → ((z : Tally) → shown (tally (joined f)) y (times (k + m) r (p + z .used) (drop (z .used) xs))
+          ≡ next (shown (tally (joined f)) y (times k r (p + z .used) (drop (z .used) xs)))
+          (λ w. plus w (shown (tally (joined f)) y (times m r (p + z .used + w .used) (drop (w .used) (drop (z .used) xs))))))
+          → next v (λ z. plus z (shown (tally (joined f)) y (times (k + m) r (p + z .used) (drop (z .used) xs))))
+          ≡ next (next v (λ z. plus z (shown (tally (joined f)) y (times k r (p + z .used) (drop (z .used) xs)))))
+          (λ w. plus w (shown (tally (joined f)) y (times m r (p + w .used) (drop (w .used) xs))))
+      first (Fine z) split =
+          ap (plus z) (split z) ∙ others z (shown (tally (joined f)) y (times k r (p + z .used) (drop (z .used) xs)))
+      first (Refused q) split = refl
