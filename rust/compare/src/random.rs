@@ -13,6 +13,13 @@ impl Random {
         (self.bits() % limit as u64) as usize
     }
 
+    /// Puts them in another order.
+    pub fn shuffle<T>(&mut self, things: &mut [T]) {
+        for last in (1..things.len()).rev() {
+            things.swap(last, self.below(last + 1));
+        }
+    }
+
     /// From 0 up to 1.
     pub fn unit(&mut self) -> f64 {
         (self.bits() & 0xFFFF_FFFF) as f64 / 4_294_967_296.0

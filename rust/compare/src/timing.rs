@@ -1,6 +1,7 @@
 //! Times a plain copy, the archive, `second` and GDAL on sheets of 16 MiB, in one run. Each figure is the best of the rounds. In a
-//! round each has its turn, so that a slow spell of the machine meets all of them, and another one begins each round, so that none always
-//! finds its memory warm. The time is the processor's, the system's part included, so that other work on the machine counts little.
+//! round each has its turn, so that a slow spell of the machine meets all of them, and each round has an order of its own, so that none
+//! always finds memory as the same other leaves it. The time is the processor's, the system's part included, so that other work on the
+//! machine counts little.
 
 use crate::gdal::Gdal;
 use crate::random::Random;
@@ -11,7 +12,7 @@ use std::hint::black_box;
 use sxf::table::unfold_into;
 use sxf::{Sizes, Table, LIMIT};
 
-const ROUNDS: usize = 32;
+const ROUNDS: usize = 64;
 
 #[derive(Clone, Copy)]
 enum Timed {
@@ -41,10 +42,12 @@ const TIMED: [(Timed, &str); 10] = [
     (Timed::Gdal, "GDAL"),
 ];
 
-/// How many times as long the first takes as the second. One call of `second` is held against one of the archive, which both check the
-/// sheet and unfold it, and two calls against two, where the sizes are asked for first; the last is one call against two.
-const RATIOS: [(&str, Timed, Timed); 4] = [
+/// How many times as long the first takes as the second. `second` asks for memory, so its one call is held against the archive's two with
+/// memory asked for between them. One call is held against one, which both check the sheet and unfold it, and two calls against two, where
+/// the sizes are asked for first; the last is one call against two, into memory that is at hand.
+const RATIOS: [(&str, Timed, Timed); 5] = [
     ("GDAL / (check + unfold)", Timed::Gdal, Timed::CheckUnfold),
+    ("`second::read` / (check + unfold, memory asked for)", Timed::SecondRead, Timed::AskedFor),
     ("`second::read` / unfold", Timed::SecondRead, Timed::Unfold),
     ("(`second::check` + `second::read`) / (check + unfold)", Timed::SecondCheckRead, Timed::CheckUnfold),
     ("`second::read` / (check + unfold)", Timed::SecondRead, Timed::CheckUnfold),
@@ -200,9 +203,11 @@ impl<'a> Bench<'a> {
 
 fn measure(bench: &mut Bench) -> Best {
     let mut best = Best([f64::MAX; TIMED.len()]);
-    for round in 0..ROUNDS {
-        for turn in 0..TIMED.len() {
-            let (which, _) = TIMED[(round + turn) % TIMED.len()];
+    let mut random = Random(1);
+    let mut order = TIMED.map(|timed| timed.0);
+    for _ in 0..ROUNDS {
+        random.shuffle(&mut order);
+        for which in order {
             best.time(which, || bench.work(which));
         }
     }
