@@ -5,7 +5,11 @@ use Rattle.fields.proofs.flags.carried.Statement.{statement}
 use Rattle.fields.proofs.flags.carried.Tie as tie
 
 returns : tie.Need-returns
-returns c = as-checks (rw (c .before .before .before .before .u8-at .ensures, c .before .before .before .u8-at2 .ensures, c .before .before .u8-at3 .ensures, c .before .u8-at4 .ensures) (carried-rules _)) (c .carried-rules .ensures)
+returns c =
+    let u8-at = c .before .before .before .before .u8-at in
+    let u8-at2 = c .before .before .before .u8-at2 in
+    let u8-at3 = c .before .before .u8-at3 in
+    as-checks (rw (u8-at .ensures, u8-at2 .ensures, u8-at3 .ensures, c .before .u8-at4 .ensures) (carried-rules _)) (c .carried-rules .ensures)
 
 pub carried-spec : {M : Type 1} → statement M
 carried-spec =

@@ -5,10 +5,14 @@ use Rattle.fields.proofs.flags.carried_rules.Tie as tie
 
 returns : tie.Need-returns
 returns c =
-    c .before .before .before .before .before .demand .ensures _
-    ▸ c .before .before .before .before .demand2 .ensures _
-    ▸ c .before .before .before .demand3 .ensures _
-    ▸ c .before .before .demand4 .ensures _
+    let demand = c .before .before .before .before .before .demand in
+    let demand2 = c .before .before .before .before .demand2 in
+    let demand3 = c .before .before .before .demand3 in
+    let demand4 = c .before .before .demand4 in
+    demand .ensures _
+    ▸ demand2 .ensures _
+    ▸ demand3 .ensures _
+    ▸ demand4 .ensures _
     ▸ c .before .feature .ensures
     ▸ c .feature2 .ensures
 

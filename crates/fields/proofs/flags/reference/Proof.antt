@@ -5,10 +5,14 @@ use Rattle.fields.proofs.flags.reference.Statement.{statement}
 use Rattle.fields.proofs.flags.reference.Tie as tie
 
 returns : tie.Need-returns
-returns c = rw (c .before .before .enum-told .given .1) (c .before .plain .ensures (c .if1 .taken) _ _ _ _ _)
+returns c =
+    let enum-told = c .before .before .enum-told in
+    rw (enum-told .given .1) (c .before .plain .ensures (c .if1 .taken) _ _ _ _ _)
 
 returns-2 : tie.Need-returns-2
-returns-2 c = rw (c .before .before .before .enum-told .given .1) (c .reference-rules .ensures)
+returns-2 c =
+    let enum-told = c .before .before .before .enum-told in
+    rw (enum-told .given .1) (c .reference-rules .ensures)
 
 returns-3 : tie.Need-returns-3
 unfolding afterOf

@@ -6,21 +6,33 @@ use Rattle.fields.proofs.flags.reference_rules.Statement.{statement}
 use Rattle.fields.proofs.flags.reference_rules.Tie as tie
 
 demand-requires-4 : tie.Need-demand-requires-4
-demand-requires-4 c κs = c .before .before .before .before .before .before .before .before .before .before .before .pre .2
+demand-requires-4 c κs =
+    let start = c .before .before .before .before .before .before .before .before .before .before .before in
+    start .pre .2
 
 returns : tie.Need-returns
 unfolding referenceChecks byte20 byte21 byte22
 returns c =
-    c .before .before .before .before .before .before .before .before .before .before .before .demand .ensures _
-    ▸ c .before .before .before .before .before .before .before .before .before .before .feature .ensures
-    ▸ c .before .before .before .before .before .before .before .before .before .feature2 .ensures
-    ▸ c .before .before .before .before .before .before .before .before .feature3 .ensures
-    ▸ c .before .before .before .before .before .before .before .feature4 .ensures
-    ▸ c .before .before .before .before .before .before .feature5 .ensures
-    ▸ c .before .before .before .before .before .feature6 .ensures
-    ▸ c .before .before .before .before .feature7 .ensures
-    ▸ c .before .before .before .demand2 .ensures _
-    ▸ c .before .before .demand3 .ensures _
+    let demand = c .before .before .before .before .before .before .before .before .before .before .before .demand in
+    let feature = c .before .before .before .before .before .before .before .before .before .before .feature in
+    let feature2 = c .before .before .before .before .before .before .before .before .before .feature2 in
+    let feature3 = c .before .before .before .before .before .before .before .before .feature3 in
+    let feature4 = c .before .before .before .before .before .before .before .feature4 in
+    let feature5 = c .before .before .before .before .before .before .feature5 in
+    let feature6 = c .before .before .before .before .before .feature6 in
+    let feature7 = c .before .before .before .before .feature7 in
+    let demand2 = c .before .before .before .demand2 in
+    let demand3 = c .before .before .demand3 in
+    demand .ensures _
+    ▸ feature .ensures
+    ▸ feature2 .ensures
+    ▸ feature3 .ensures
+    ▸ feature4 .ensures
+    ▸ feature5 .ensures
+    ▸ feature6 .ensures
+    ▸ feature7 .ensures
+    ▸ demand2 .ensures _
+    ▸ demand3 .ensures _
     ▸ c .before .feature8 .ensures
     ▸ c .demand4 .ensures _
 

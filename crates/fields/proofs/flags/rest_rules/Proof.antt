@@ -5,13 +5,20 @@ use Rattle.fields.proofs.flags.rest_rules.Tie as tie
 
 returns : tie.Need-returns
 returns c =
-    c .before .before .before .before .before .before .before .before .demand .ensures _
-    ▸ c .before .before .before .before .before .before .before .demand2 .ensures _
-    ▸ c .before .before .before .before .before .before .demand3 .ensures _
-    ▸ c .before .before .before .before .before .feature .ensures
-    ▸ c .before .before .before .before .demand4 .ensures _
-    ▸ c .before .before .before .feature2 .ensures
-    ▸ c .before .before .feature3 .ensures
+    let demand = c .before .before .before .before .before .before .before .before .demand in
+    let demand2 = c .before .before .before .before .before .before .before .demand2 in
+    let demand3 = c .before .before .before .before .before .before .demand3 in
+    let feature = c .before .before .before .before .before .feature in
+    let demand4 = c .before .before .before .before .demand4 in
+    let feature2 = c .before .before .before .feature2 in
+    let feature3 = c .before .before .feature3 in
+    demand .ensures _
+    ▸ demand2 .ensures _
+    ▸ demand3 .ensures _
+    ▸ feature .ensures
+    ▸ demand4 .ensures _
+    ▸ feature2 .ensures
+    ▸ feature3 .ensures
     ▸ c .before .feature4 .ensures
     ▸ c .feature5 .ensures
 

@@ -5,7 +5,9 @@ use Rattle.fields.proofs.numbers.rest.Statement.{statement}
 use Rattle.fields.proofs.numbers.rest.Tie as tie
 
 returns : tie.Need-returns
-returns c = rest-is (now (c .before .args .s)) (c .before .args .p)
+returns c =
+    let start = c .before in
+    rest-is (now (start .args .s)) (start .args .p)
 
 pub rest-spec : {M : Type 1} → statement M
 rest-spec = tie.close (tie.spec (λ c. search needs) (λ c. search needs) (λ c. search needs) returns)

@@ -11,7 +11,10 @@ returns c = record { is = simp (c .before .if1 .taken, le-leb _ _ (c .if2 .taken
 
 returns-2 : tie.Need-returns-2
 unfolding afterOf stepOf
-returns-2 c = record { is = simp (c .enum-told .given .1, c .before .before .before .if1 .taken, lt-leb _ _ (c .before .before .if2 .left)) }
+returns-2 c =
+    let if1 = c .before .before .before .if1 in
+    let if2 = c .before .before .if2 in
+    record { is = simp (c .enum-told .given .1, if1 .taken, lt-leb _ _ (if2 .left)) }
 
 returns-3 : tie.Need-returns-3
 unfolding afterOf

@@ -22,23 +22,31 @@ add-sum : tie.Need-add-sum Inv-loop μ-loop
 add-sum c = omega arith
 
 cast-sum : tie.Need-cast-sum Inv-loop μ-loop
-cast-sum c = omega (arith, c .shared-slice-known .given (c .before .before .before .args .at + c .before .before .loop .i))
+cast-sum c =
+    let start = c .before .before .before in
+    let loop = c .before .before .loop in
+    omega (arith, c .shared-slice-known .given (start .args .at + loop .i))
 
 add-sum-2 : tie.Need-add-sum-2 Inv-loop μ-loop
-add-sum-2 c = omega (arith, c .shared-slice-known .given (c .before .before .before .args .at + c .before .before .loop .i))
+add-sum-2 c =
+    let start = c .before .before .before in
+    let loop = c .before .before .loop in
+    omega (arith, c .shared-slice-known .given (start .args .at + loop .i))
 
 loop-again : tie.Need-loop-again Inv-loop μ-loop
 loop-again c =
-    let s = now (c .before .before .before .args .s) in
-    let at = c .before .before .before .args .at in
+    let start = c .before .before .before in
     let i = c .before .before .loop .i in
+    let s = now (start .args .s) in
+    let at = start .args .at in
     omega (arith, c .shared-slice-known .given (at + i), total-next s at i (omega arith))
 
 returns : tie.Need-returns Inv-loop μ-loop
 returns c =
-    let s = now (c .before .before .args .s) in
-    let at = c .before .before .args .at in
+    let start = c .before .before in
     let i = c .before .loop .i in
+    let s = now (start .args .s) in
+    let at = start .args .at in
     let done : i ≡ 64 = omega arith in
     omega (arith, ap (λ n. total (drop (at + n) s)) done)
 

@@ -22,12 +22,15 @@ add-sum c = omega (arith, c .shared-slice-known .given (c .before .before .loop 
 
 loop-again : tie.Need-loop-again Inv-loop μ-loop
 loop-again c =
-    let s = now (c .before .before .before .args .s) in
+    let start = c .before .before .before in
     let i = c .before .before .loop .i in
+    let s = now (start .args .s) in
     omega (arith, c .shared-slice-known .given i, total-step s i (omega arith))
 
 returns : tie.Need-returns Inv-loop μ-loop
-returns c = omega (arith, total-end (now (c .before .before .args .s)) (c .before .loop .i) (omega arith))
+returns c =
+    let start = c .before .before in
+    omega (arith, total-end (now (start .args .s)) (c .before .loop .i) (omega arith))
 
 pub few-spec : {M : Type 1} → statement M
 few-spec =

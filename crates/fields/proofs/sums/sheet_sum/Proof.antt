@@ -11,16 +11,22 @@ sum-of-requires : tie.Need-sum-of-requires
 sum-of-requires c κs = rw (c .part .ensures) (omega (arith, part-length (now (c .before .before .args .s)) 0 12 (omega arith)))
 
 sum-of-requires-2 : tie.Need-sum-of-requires-2
-sum-of-requires-2 c κs = rw (c .rest .ensures) (omega (arith, length-drop 16 (now (c .before .before .before .before .args .s))))
+sum-of-requires-2 c κs =
+    let start = c .before .before .before .before in
+    rw (c .rest .ensures) (omega (arith, length-drop 16 (now (start .args .s))))
 
 add-result : tie.Need-add-result
 add-result c =
-    let s = now (c .before .before .before .before .before .args .s) in
-    omega (arith, ap length (c .before .before .before .part .ensures), part-length s 0 12 (omega arith), ap length (c .before .rest .ensures), length-drop 16 s)
+    let start = c .before .before .before .before .before in
+    let part = c .before .before .before .part in
+    let s = now (start .args .s) in
+    omega (arith, ap length (part .ensures), part-length s 0 12 (omega arith), ap length (c .before .rest .ensures), length-drop 16 s)
 
 returns : tie.Need-returns
 returns c =
-    simp (c .before .before .sum-of .ensures .0, c .sum-of2 .ensures .0, c .before .before .before .part .ensures, c .before .rest .ensures)
+    let part = c .before .before .before .part in
+    let sum-of = c .before .before .sum-of in
+    simp (sum-of .ensures .0, c .sum-of2 .ensures .0, part .ensures, c .before .rest .ensures)
 
 pub sheet-sum-spec : {M : Type 1} → statement M
 sheet-sum-spec =

@@ -18,19 +18,24 @@ block-requires c κs = omega arith
 
 few-requires : tie.Need-few-requires Inv-loop μ-loop
 few-requires c κs =
-    rw (c .rest .ensures) (omega (arith, length-drop (c .before .before .loop .at) (now (c .before .before .before .before .args .s))))
+    let start = c .before .before .before .before in
+    let loop = c .before .before .loop in
+    rw (c .rest .ensures) (omega (arith, length-drop (loop .at) (now (start .args .s))))
 
 add-result : tie.Need-add-result Inv-loop μ-loop
 add-result c =
-    let s = now (c .before .before .before .before .before .args .s) in
+    let start = c .before .before .before .before .before in
     let at = c .before .before .before .loop .at in
+    let s = now (start .args .s) in
     omega (arith, ap length (c .before .rest .ensures), length-drop at s)
 
 returns : tie.Need-returns Inv-loop μ-loop
 returns c =
-    let s = now (c .before .before .before .before .before .args .s) in
+    let start = c .before .before .before .before .before in
     let at = c .before .before .before .loop .at in
-    omega (arith, ap length (c .before .rest .ensures), ap total (c .before .rest .ensures), length-drop at s)
+    let rest = c .before .rest in
+    let s = now (start .args .s) in
+    omega (arith, ap length (rest .ensures), ap total (rest .ensures), length-drop at s)
 
 pub sum-of-spec : {M : Type 1} → statement M
 sum-of-spec =

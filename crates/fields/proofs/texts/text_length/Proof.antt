@@ -16,18 +16,22 @@ abbrev μ-loop : tie.MeasureT-loop
 
 returns : tie.Need-returns Inv-loop μ-loop
 returns c =
-    let s = now (c .before .before .before .before .args .s) in
+    let start = c .before .before .before .before in
     let i = c .before .before .before .loop .i in
+    let s = now (start .args .s) in
     omega (arith, text-zero s i (omega arith) (c .if1 .taken))
 
 loop-again : tie.Need-loop-again Inv-loop μ-loop
 loop-again c =
-    let s = now (c .before .before .before .before .args .s) in
+    let start = c .before .before .before .before in
     let i = c .before .before .before .loop .i in
+    let s = now (start .args .s) in
     omega (arith, text-more s i (omega arith) (c .if1 .left))
 
 returns-2 : tie.Need-returns-2 Inv-loop μ-loop
-returns-2 c = omega (arith, text-end (now (c .before .before .args .s)) (c .before .loop .i) (omega arith))
+returns-2 c =
+    let start = c .before .before in
+    omega (arith, text-end (now (start .args .s)) (c .before .loop .i) (omega arith))
 
 pub text-length-spec : {M : Type 1} → statement M
 text-length-spec =
