@@ -21,7 +21,9 @@ returns-4 c = simp (c .enum-told4 .given .1, c .before .before .number-of .ensur
 
 returns-5 : tie.Need-returns-5
 unfolding coordinateOf
-returns-5 c = simp (c .before .unit .given .1, c .before .before .before .number-of .ensures)
+returns-5 c =
+    let number-of = c .before .before .before .number-of in
+    simp (c .before .unit .given .1, number-of .ensures)
 
 pub coordinate-of-spec : {M : Type 1} → statement M
 coordinate-of-spec =

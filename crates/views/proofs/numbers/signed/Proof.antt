@@ -7,13 +7,19 @@ use Rattle.views.proofs.numbers.signed.Statement.{statement}
 use Rattle.views.proofs.numbers.signed.Tie as tie
 
 mul-result : tie.Need-mul-result
-mul-result c = twice-fits (c .before .args .bits) (c .before .args .half) (omega arith) (omega arith)
+mul-result c =
+    let start = c .before in
+    twice-fits (start .args .bits) (start .args .half) (omega arith) (omega arith)
 
 sub-result : tie.Need-sub-result
-sub-result c = less-fits (c .before .args .bits) (c .before .args .half) (omega arith) (omega arith)
+sub-result c =
+    let start = c .before in
+    less-fits (start .args .bits) (start .args .half) (omega arith) (omega arith)
 
 returns : tie.Need-returns
-returns c = less-is (c .before .args .bits) (c .before .args .half) (omega arith) (omega arith) ∙ simp (le-leb _ _ (c .if1 .taken))
+returns c =
+    let start = c .before in
+    less-is (start .args .bits) (start .args .half) (omega arith) (omega arith) ∙ simp (le-leb _ _ (c .if1 .taken))
 
 returns-2 : tie.Need-returns-2
 returns-2 c = small (c .before .args .bits) (omega arith) ∙ simp (lt-leb _ _ (c .if1 .left))

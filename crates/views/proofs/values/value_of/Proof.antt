@@ -10,18 +10,31 @@ use Rattle.views.proofs.values.value_of.Tie as tie
 
 returns : tie.Need-returns
 unfolding semanticValue
-returns c = rw (c .before .match .keys1, number-low 1 4 (c .before .before .args .bits) (omega arith)) (c .integer .ensures)
+returns c =
+    let start = c .before .before in
+    rw (c .before .match .keys1, number-low 1 4 (start .args .bits) (omega arith)) (c .integer .ensures)
 
 returns-2 : tie.Need-returns-2
 unfolding semanticValue
-returns-2 c = rw (c .before .match .keys2, number-low 2 4 (c .before .before .args .bits) (omega arith)) (c .integer2 .ensures)
+returns-2 c =
+    let start = c .before .before in
+    rw (c .before .match .keys2, number-low 2 4 (start .args .bits) (omega arith)) (c .integer2 .ensures)
 
 returns-3 : tie.Need-returns-3
 unfolding semanticValue
-returns-3 c = rw (c .before .match .keys3, number-low 4 4 (c .before .before .args .bits) (omega arith), mod-eq-of-lt {n = c .before .before .args .bits} {m = 4294967296} (omega arith)) (c .integer3 .ensures)
+returns-3 c =
+    let start = c .before .before in
+    rw (
+      c .before .match .keys3,
+      number-low 4 4 (start .args .bits) (omega arith),
+      mod-eq-of-lt {n = start .args .bits} {m = 4294967296} (omega arith),
+    )
+    (c .integer3 .ensures)
 
 returns-4 : tie.Need-returns-4
-returns-4 c = other (itemOf (c .before .args .kind) (c .before .args .scale) (c .before .args .bits)) (c .match .rest .0 .0 .1) (c .match .rest .0 .1) (c .match .rest .1)
+returns-4 c =
+    let start = c .before in
+    other (itemOf (start .args .kind) (start .args .scale) (start .args .bits)) (c .match .rest .0 .0 .1) (c .match .rest .0 .1) (c .match .rest .1)
 
 pub value-of-spec : {M : Type 1} → statement M
 value-of-spec =

@@ -11,7 +11,9 @@ returns c = simp (eq-eqb _ _ (c .if1 .taken))
 
 returns-2 : tie.Need-returns-2
 unfolding visibilityOf denominatorOf
-returns-2 c = simp (ne-eqb _ _ (c .before .before .if1 .left), c .before .denominator .ensures, c .denominator2 .ensures)
+returns-2 c =
+    let if1 = c .before .before .if1 in
+    simp (ne-eqb _ _ (if1 .left), c .before .denominator .ensures, c .denominator2 .ensures)
 
 pub visibility-of-spec : {M : Type 1} → statement M
 visibility-of-spec =
