@@ -3,7 +3,25 @@ use Rattle.checking.proofs.headers.read_header.Statement.{statement}
 use Rattle.checking.proofs.headers.read_header.Tie as tie
 
 returns : tie.Need-returns
-returns c = rw (c .before .before .before .before .before .before .before .before .u32-at .ensures, c .before .before .before .before .before .before .before .u32-at2 .ensures, c .before .before .before .before .before .before .u32-at3 .ensures, c .before .before .before .before .before .u8-at .ensures, c .before .before .before .before .u8-at2 .ensures, c .before .before .before .u8-at3 .ensures, c .before .before .u32-at4 .ensures, c .before .u16-at .ensures, c .u16-at2 .ensures)
+returns c =
+    let u32-at = c .before .before .before .before .before .before .before .before .u32-at in
+    let u32-at2 = c .before .before .before .before .before .before .before .u32-at2 in
+    let u32-at3 = c .before .before .before .before .before .before .u32-at3 in
+    let u8-at = c .before .before .before .before .before .u8-at in
+    let u8-at2 = c .before .before .before .before .u8-at2 in
+    let u8-at3 = c .before .before .before .u8-at3 in
+    let u32-at4 = c .before .before .u32-at4 in
+    rw (
+      u32-at .ensures,
+      u32-at2 .ensures,
+      u32-at3 .ensures,
+      u8-at .ensures,
+      u8-at2 .ensures,
+      u8-at3 .ensures,
+      u32-at4 .ensures,
+      c .before .u16-at .ensures,
+      c .u16-at2 .ensures,
+    )
 
 pub read-header-spec : {M : Type 1} → statement M
 read-header-spec =

@@ -23,27 +23,47 @@ loop-holds : tie.Need-loop-holds Inv-loop μ-loop
 loop-holds c = (omega arith, going-start _ _ _ _ _)
 
 sum-requires : tie.Need-sum-requires Inv-loop μ-loop
-sum-requires c κs = sum-ok (now (c .before .before .before .before .before .before .before .before .before .args .xs)) _ (c .before .before .before .before .before .before .before .loop .inv .0) (c .before .before .before .item .result) (c .before .before .before .item .ensures .1) _ (c .before .z .given .1) (omega arith)
+sum-requires c κs =
+    let start = c .before .before .before .before .before .before .before .before .before in
+    let loop = c .before .before .before .before .before .before .before .loop in
+    let item = c .before .before .before .item in
+    sum-ok (now (start .args .xs)) _ (loop .inv .0) (item .result) (item .ensures .1) _ (c .before .z .given .1) (omega arith)
 
 loop-less : tie.Need-loop-less Inv-loop μ-loop
 loop-less c =
-    let l = going-less _ _ _ _ _ (item-sized _) _ (c .before .before .before .before .before .before .before .before .loop .inv .1) (c .before .before .before .before .before .before .if1 .taken) (c .before .before .before .before .item .result) (c .before .before .before .before .item .ensures .0) _ (c .before .before .z .given .1) in
-    let w = rest-within _ _ (now (c .before .before .before .before .before .before .before .before .before .before .args .xs)) (c .before .before .before .before .item .result) (c .before .before .before .before .item .ensures .1) _ (c .before .before .z .given .1) in
+    let start = c .before .before .before .before .before .before .before .before .before .before in
+    let loop = c .before .before .before .before .before .before .before .before .loop in
+    let if1 = c .before .before .before .before .before .before .if1 in
+    let item = c .before .before .before .before .item in
+    let z = c .before .before .z in
+    let l = going-less _ _ _ _ _ (item-sized _) _ (loop .inv .1) (if1 .taken) (item .result) (item .ensures .0) _ (z .given .1) in
+    let w = rest-within _ _ (now (start .args .xs)) (item .result) (item .ensures .1) _ (z .given .1) in
     rw (c .sum .ensures) (omega (arith, l, w))
 
 loop-again : tie.Need-loop-again Inv-loop μ-loop
-loop-again c = (
-  within-turn (now (c .before .before .before .before .before .before .before .before .before .before .args .xs)) _ (c .before .before .before .before .before .before .before .before .loop .inv .0) (c .before .before .before .before .item .result) (c .before .before .before .before .item .ensures .1) _ (c .before .before .z .given .1) _ (c .sum .ensures),
-  going-turn _ _ _ _ _ (item-sized _) _ (c .before .before .before .before .before .before .before .before .loop .inv .1) (c .before .before .before .before .before .before .if1 .taken) (c .before .before .before .before .item .result) (c .before .before .before .before .item .ensures .0) _ (c .before .before .z .given .1) _ (c .sum .ensures),
-)
+loop-again c =
+    let start = c .before .before .before .before .before .before .before .before .before .before in
+    let loop = c .before .before .before .before .before .before .before .before .loop in
+    let if1 = c .before .before .before .before .before .before .if1 in
+    let item = c .before .before .before .before .item in
+    let z = c .before .before .z in (
+      within-turn (now (start .args .xs)) _ (loop .inv .0) (item .result) (item .ensures .1) _ (z .given .1) _ (c .sum .ensures),
+      going-turn _ _ _ _ _ (item-sized _) _ (loop .inv .1) (if1 .taken) (item .result) (item .ensures .0) _ (z .given .1) _ (c .sum .ensures),
+    )
 
 returns : tie.Need-returns Inv-loop μ-loop
-returns c = (going-stop _ _ _ _ _ (item-sized _) _ (c .before .before .before .before .before .before .before .loop .inv .1) (c .before .before .before .before .before .if1 .taken) (c .before .before .before .item .result) (c .before .before .before .item .ensures .0) _ (c .before .r .given .1), tt)
+returns c =
+    let loop = c .before .before .before .before .before .before .before .loop in
+    let if1 = c .before .before .before .before .before .if1 in
+    let item = c .before .before .before .item in
+    (going-stop _ _ _ _ _ (item-sized _) _ (loop .inv .1) (if1 .taken) (item .result) (item .ensures .0) _ (c .before .r .given .1), tt)
 
 returns-2 : tie.Need-returns-2 Inv-loop μ-loop
 returns-2 c =
-    let e : c .before .before .loop .acc .used ≡ length (now (c .before .before .before .before .args .xs)) = omega arith in
-    (going-done _ _ _ _ _ _ (c .before .before .loop .inv .1) e, c .before .before .loop .inv .0)
+    let start = c .before .before .before .before in
+    let loop = c .before .before .loop in
+    let e : loop .acc .used ≡ length (now (start .args .xs)) = omega arith in
+    (going-done _ _ _ _ _ _ (loop .inv .1) e, loop .inv .0)
 
 pub items-spec : {M : Type 1} → statement M
 items-spec =

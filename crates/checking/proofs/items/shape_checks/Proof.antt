@@ -4,7 +4,11 @@ use Rattle.checking.proofs.items.shape_checks.Statement.{statement}
 use Rattle.checking.proofs.items.shape_checks.Tie as tie
 
 returns : tie.Need-returns
-returns c = c .before .before .before .before .demand .ensures _ ▸ c .before .before .before .feature .ensures ▸ c .before .before .demand2 .ensures _ ▸ c .demand3 .ensures _
+returns c =
+    let demand = c .before .before .before .before .demand in
+    let feature = c .before .before .before .feature in
+    let demand2 = c .before .before .demand2 in
+    demand .ensures _ ▸ feature .ensures ▸ demand2 .ensures _ ▸ c .demand3 .ensures _
 
 pub shape-checks-spec : {M : Type 1} → statement M
 shape-checks-spec =

@@ -14,18 +14,46 @@ use Rattle.checking.proofs.parts.metric.Tie as tie
 
 returns : tie.Need-returns
 unfolding metricWalk
-returns c = (λ y. whole-left y metricTable 10 (pair (partWalk (record { byte20 = c .before .before .before .before .before .before .args .b20; byte21 = c .before .before .before .before .before .before .args .b21; byte22 = c .before .before .before .before .before .before .args .b22 }) (c .before .before .before .before .before .before .args .count)) (times (c .before .before .before .before .before .before .args .n) (subobjectWalk (record { byte20 = c .before .before .before .before .before .before .args .b20; byte21 = c .before .before .before .before .before .before .args .b21; byte22 = c .before .before .before .before .before .before .args .b22 }) (c .before .before .before .before .before .before .args .marked)))) (c .before .before .before .before .before .before .args .p) (now (c .before .before .before .before .before .before .args .xs)) (c .before .before .before .before .pair .result) (c .before .before .before .before .pair .ensures .0 y) _ (c .before .before .all .given .1) (c .if1 .taken), tt)
+returns c =
+    let start = c .before .before .before .before .before .before in
+    let the-pair = c .before .before .before .before .pair in
+    let all = c .before .before .all in (
+      λ y. whole-left y metricTable 10
+          (pair (partWalk (record { byte20 = start .args .b20; byte21 = start .args .b21; byte22 = start .args .b22 }) (start .args .count))
+          (times (start .args .n)
+          (subobjectWalk (record { byte20 = start .args .b20; byte21 = start .args .b21; byte22 = start .args .b22 }) (start .args .marked))))
+          (start .args .p) (now (start .args .xs)) (the-pair .result) (the-pair .ensures .0 y) _ (all .given .1) (c .if1 .taken),
+      tt,
+    )
 
 returns-2 : tie.Need-returns-2
 unfolding metricWalk
 returns-2 c =
-    let w = within-fine _ _ (c .before .before .before .before .pair .result) _ (c .before .before .all .given .1) (c .before .before .before .before .pair .ensures .1) in
-    let l : c .before .before .all .given .0 .0 .used ≡ length (now (c .before .before .before .before .before .before .args .xs)) = omega (arith, w) in
-    (λ y. whole-fine y metricTable 10 (pair (partWalk (record { byte20 = c .before .before .before .before .before .before .args .b20; byte21 = c .before .before .before .before .before .before .args .b21; byte22 = c .before .before .before .before .before .before .args .b22 }) (c .before .before .before .before .before .before .args .count)) (times (c .before .before .before .before .before .before .args .n) (subobjectWalk (record { byte20 = c .before .before .before .before .before .before .args .b20; byte21 = c .before .before .before .before .before .before .args .b21; byte22 = c .before .before .before .before .before .before .args .b22 }) (c .before .before .before .before .before .before .args .marked)))) (c .before .before .before .before .before .before .args .p) (now (c .before .before .before .before .before .before .args .xs)) (c .before .before .before .before .pair .result) (c .before .before .before .before .pair .ensures .0 y) _ (c .before .before .all .given .1) l, w)
+    let start = c .before .before .before .before .before .before in
+    let the-pair = c .before .before .before .before .pair in
+    let all = c .before .before .all in
+    let w = within-fine _ _ (the-pair .result) _ (all .given .1) (the-pair .ensures .1) in
+    let l : all .given .0 .0 .used ≡ length (now (start .args .xs)) = omega (arith, w) in (
+      λ y. whole-fine y metricTable 10
+          (pair (partWalk (record { byte20 = start .args .b20; byte21 = start .args .b21; byte22 = start .args .b22 }) (start .args .count))
+          (times (start .args .n)
+          (subobjectWalk (record { byte20 = start .args .b20; byte21 = start .args .b21; byte22 = start .args .b22 }) (start .args .marked))))
+          (start .args .p) (now (start .args .xs)) (the-pair .result) (the-pair .ensures .0 y) _ (all .given .1) l,
+      w,
+    )
 
 returns-3 : tie.Need-returns-3
 unfolding metricWalk
-returns-3 c = (λ y. whole-stop y metricTable 10 (pair (partWalk (record { byte20 = c .before .before .before .before .before .args .b20; byte21 = c .before .before .before .before .before .args .b21; byte22 = c .before .before .before .before .before .args .b22 }) (c .before .before .before .before .before .args .count)) (times (c .before .before .before .before .before .args .n) (subobjectWalk (record { byte20 = c .before .before .before .before .before .args .b20; byte21 = c .before .before .before .before .before .args .b21; byte22 = c .before .before .before .before .before .args .b22 }) (c .before .before .before .before .before .args .marked)))) (c .before .before .before .before .before .args .p) (now (c .before .before .before .before .before .args .xs)) (c .before .before .before .pair .result) (c .before .before .before .pair .ensures .0 y) _ (c .before .r .given .1), tt)
+returns-3 c =
+    let start = c .before .before .before .before .before in
+    let the-pair = c .before .before .before .pair in (
+      λ y. whole-stop y metricTable 10
+          (pair (partWalk (record { byte20 = start .args .b20; byte21 = start .args .b21; byte22 = start .args .b22 }) (start .args .count))
+          (times (start .args .n)
+          (subobjectWalk (record { byte20 = start .args .b20; byte21 = start .args .b21; byte22 = start .args .b22 }) (start .args .marked))))
+          (start .args .p) (now (start .args .xs)) (the-pair .result) (the-pair .ensures .0 y) _ (c .before .r .given .1),
+      tt,
+    )
 
 pub metric-spec : {M : Type 1} → statement M
 metric-spec =

@@ -10,26 +10,51 @@ use Rattle.checking.proofs.parts.part.Tie as tie
 use Rattle.fields.proofs.Widths.{product-fits}
 
 mul-size : tie.Need-mul-size
-mul-size c = record { fits = omega (arith, product-fits _ _ (c .before .before .before .pre .1) (c .point-size .ensures .1)) }
+mul-size c =
+    let start = c .before .before .before in
+    record { fits = omega (arith, product-fits _ _ (start .pre .1) (c .point-size .ensures .1)) }
 
 returns : tie.Need-returns
-returns c = (λ y. part-short y _ _ _ _ _ _ (c .before .before .shape-of .ensures) _ (c .before .point-size .ensures .0) refl (c .if1 .taken), tt)
+returns c =
+    let shape-of = c .before .before .shape-of in
+    (λ y. part-short y _ _ _ _ _ _ (shape-of .ensures) _ (c .before .point-size .ensures .0) refl (c .if1 .taken), tt)
 
 add-t21 : tie.Need-add-t21
-add-t21 c = let w = rest-within _ _ (now (c .before .before .before .before .before .before .before .before .before .before .before .args .xs)) (c .before .before .before .before .text-end .result) (c .before .before .before .before .text-end .ensures .1) _ (c .before .before .t .given .1) in omega (arith, w)
+add-t21 c =
+    let start = c .before .before .before .before .before .before .before .before .before .before .before in
+    let text-end = c .before .before .before .before .text-end in
+    let t = c .before .before .t in
+    let w = rest-within _ _ (now (start .args .xs)) (text-end .result) (text-end .ensures .1) _ (t .given .1) in
+    omega (arith, w)
 
 returns-2 : tie.Need-returns-2
 returns-2 c =
-    let w = rest-within _ _ (now (c .before .before .before .before .before .before .before .before .before .before .before .args .xs)) (c .before .before .before .before .text-end .result) (c .before .before .before .before .text-end .ensures .1) _ (c .before .before .t .given .1) in
-    let is = c .before .before .before .before .before .before .before .before .before .shape-of .ensures in
+    let start = c .before .before .before .before .before .before .before .before .before .before .before in
+    let shape-of = c .before .before .before .before .before .before .before .before .before .shape-of in
     let point = c .before .before .before .before .before .before .before .before .point-size .ensures .0 in
+    let if1 = c .before .before .before .before .before .before .before .if1 in
     let elements = c .before .before .before .before .before .before .elements-of .ensures .0 in
-    let b = elements-within (c .before .before .before .before .before .before .before .before .before .shape-of .result) (c .before .before .before .before .before .before .before .before .before .before .before .args .count) _ _ point elements in
-    (λ y. part-then y _ _ _ _ _ _ is _ point refl (c .before .before .before .before .before .before .before .if1 .left) _ elements (Fine (c .before .before .t .given .0 .0)) (sym (c .before .before .t .given .1) ∙ c .before .before .before .before .text-end .ensures .0 y), omega (arith, w, b))
+    let text-end = c .before .before .before .before .text-end in
+    let t = c .before .before .t in
+    let w = rest-within _ _ (now (start .args .xs)) (text-end .result) (text-end .ensures .1) _ (t .given .1) in
+    let is = shape-of .ensures in
+    let b = elements-within (shape-of .result) (start .args .count) _ _ point elements in (
+      λ y. part-then y _ _ _ _ _ _ is _ point refl (if1 .left) _ elements (Fine (t .given .0 .0)) (sym (t .given .1) ∙ text-end .ensures .0 y),
+      omega (arith, w, b),
+    )
 
 returns-3 : tie.Need-returns-3
 returns-3 c =
-    (λ y. part-then y _ _ _ _ _ _ (c .before .before .before .before .before .before .before .before .shape-of .ensures) _ (c .before .before .before .before .before .before .before .point-size .ensures .0) refl (c .before .before .before .before .before .before .if1 .left) _ (c .before .before .before .before .before .elements-of .ensures .0) (Refused (c .before .r .given .0 .0)) (sym (c .before .r .given .1) ∙ c .before .before .before .text-end .ensures .0 y), tt)
+    let shape-of = c .before .before .before .before .before .before .before .before .shape-of in
+    let point-size = c .before .before .before .before .before .before .before .point-size in
+    let if1 = c .before .before .before .before .before .before .if1 in
+    let elements-of = c .before .before .before .before .before .elements-of in
+    let text-end = c .before .before .before .text-end in
+    let r = c .before .r in (
+      λ y. part-then y _ _ _ _ _ _ (shape-of .ensures) _ (point-size .ensures .0) refl (if1 .left) _ (elements-of .ensures .0)
+          (Refused (r .given .0 .0)) (sym (r .given .1) ∙ text-end .ensures .0 y),
+      tt,
+    )
 
 pub part-spec : {M : Type 1} → statement M
 part-spec =

@@ -12,18 +12,46 @@ returns : tie.Need-returns
 returns c = (λ y. subobject-short y _ _ _ _ (c .if1 .taken), tt)
 
 add-t25 : tie.Need-add-t25
-add-t25 c = let w = rest-within _ _ (now (c .before .before .before .before .before .before .before .before .before .before .before .args .xs)) (c .before .before .before .before .part .result) (c .before .before .before .before .part .ensures .1) _ (c .before .before .t .given .1) in omega (arith, w)
+add-t25 c =
+    let start = c .before .before .before .before .before .before .before .before .before .before .before in
+    let part = c .before .before .before .before .part in
+    let t = c .before .before .t in
+    let w = rest-within _ _ (now (start .args .xs)) (part .result) (part .ensures .1) _ (t .given .1) in
+    omega (arith, w)
 
 returns-2 : tie.Need-returns-2
 returns-2 c =
-    let w = rest-within _ _ (now (c .before .before .before .before .before .before .before .before .before .before .before .args .xs)) (c .before .before .before .before .part .result) (c .before .before .before .before .part .ensures .1) _ (c .before .before .t .given .1) in
-    (λ y. subobject-then y _ _ _ _ (c .before .before .before .before .before .before .before .before .before .if1 .left) _ _ (c .before .before .before .before .before .before .before .before .u16-at .ensures) (c .before .before .before .before .before .before .before .u16-at2 .ensures) (c .before .before .before .before .before .before .if2 .taken) _ (omega arith) (Fine (c .before .before .t .given .0 .0)) (sym (c .before .before .t .given .1) ∙ c .before .before .before .before .part .ensures .0 y), omega (arith, w))
+    let start = c .before .before .before .before .before .before .before .before .before .before .before in
+    let if1 = c .before .before .before .before .before .before .before .before .before .if1 in
+    let u16-at = c .before .before .before .before .before .before .before .before .u16-at in
+    let u16-at2 = c .before .before .before .before .before .before .before .u16-at2 in
+    let if2 = c .before .before .before .before .before .before .if2 in
+    let part = c .before .before .before .before .part in
+    let t = c .before .before .t in
+    let w = rest-within _ _ (now (start .args .xs)) (part .result) (part .ensures .1) _ (t .given .1) in (
+      λ y. subobject-then y _ _ _ _ (if1 .left) _ _ (u16-at .ensures) (u16-at2 .ensures) (if2 .taken) _ (omega arith) (Fine (t .given .0 .0))
+          (sym (t .given .1) ∙ part .ensures .0 y),
+      omega (arith, w),
+    )
 
 returns-3 : tie.Need-returns-3
-returns-3 c = (λ y. subobject-then y _ _ _ _ (c .before .before .before .before .before .before .before .before .if1 .left) _ _ (c .before .before .before .before .before .before .before .u16-at .ensures) (c .before .before .before .before .before .before .u16-at2 .ensures) (c .before .before .before .before .before .if2 .taken) _ (omega arith) (Refused (c .before .r .given .0 .0)) (sym (c .before .r .given .1) ∙ c .before .before .before .part .ensures .0 y), tt)
+returns-3 c =
+    let if1 = c .before .before .before .before .before .before .before .before .if1 in
+    let u16-at = c .before .before .before .before .before .before .before .u16-at in
+    let u16-at2 = c .before .before .before .before .before .before .u16-at2 in
+    let if2 = c .before .before .before .before .before .if2 in
+    let part = c .before .before .before .part in
+    let r = c .before .r in (
+      λ y. subobject-then y _ _ _ _ (if1 .left) _ _ (u16-at .ensures) (u16-at2 .ensures) (if2 .taken) _ (omega arith) (Refused (r .given .0 .0))
+          (sym (r .given .1) ∙ part .ensures .0 y),
+      tt,
+    )
 
 returns-4 : tie.Need-returns-4
-returns-4 c = (λ y. subobject-count y _ _ _ _ (c .before .before .before .if1 .left) _ _ (c .before .before .u16-at .ensures) (c .before .u16-at2 .ensures) (c .if2 .left), tt)
+returns-4 c =
+    let if1 = c .before .before .before .if1 in
+    let u16-at = c .before .before .u16-at in
+    (λ y. subobject-count y _ _ _ _ (if1 .left) _ _ (u16-at .ensures) (c .before .u16-at2 .ensures) (c .if2 .left), tt)
 
 pub subobject-spec : {M : Type 1} → statement M
 subobject-spec =

@@ -20,19 +20,32 @@ loop-holds : tie.Need-loop-holds Inv-loop μ-loop
 loop-holds c = (omega arith, λ y. same-start _ _ _ _ _ y)
 
 sum-requires : tie.Need-sum-requires Inv-loop μ-loop
-sum-requires c κs = sum-ok (now (c .before .before .before .before .before .before .before .before .args .xs)) _ (c .before .before .before .before .before .before .loop .inv .0) (c .before .before .before .subobject .result) (c .before .before .before .subobject .ensures .1) _ (c .before .z .given .1) (omega arith)
+sum-requires c κs =
+    let start = c .before .before .before .before .before .before .before .before in
+    let loop = c .before .before .before .before .before .before .loop in
+    let subobject = c .before .before .before .subobject in
+    sum-ok (now (start .args .xs)) _ (loop .inv .0) (subobject .result) (subobject .ensures .1) _ (c .before .z .given .1) (omega arith)
 
 returns : tie.Need-returns Inv-loop μ-loop
-returns c = (λ y. same-stop _ _ _ _ _ y _ _ (c .before .before .before .before .before .before .loop .inv .1 y) (omega arith) (c .before .before .before .subobject .result) (c .before .before .before .subobject .ensures .0 y) _ (c .before .r .given .1), tt)
+returns c =
+    let loop = c .before .before .before .before .before .before .loop in
+    let subobject = c .before .before .before .subobject in
+    (λ y. same-stop _ _ _ _ _ y _ _ (loop .inv .1 y) (omega arith) (subobject .result) (subobject .ensures .0 y) _ (c .before .r .given .1), tt)
 
 loop-again : tie.Need-loop-again Inv-loop μ-loop
-loop-again c = (
-  within-turn (now (c .before .before .before .before .before .before .before .before .before .args .xs)) _ (c .before .before .before .before .before .before .before .loop .inv .0) (c .before .before .before .before .subobject .result) (c .before .before .before .before .subobject .ensures .1) _ (c .before .before .z .given .1) _ (c .sum .ensures),
-  λ y. same-turn _ _ _ _ _ y _ _ (c .before .before .before .before .before .before .before .loop .inv .1 y) (omega arith) (c .before .before .before .before .subobject .result) (c .before .before .before .before .subobject .ensures .0 y) _ (c .before .before .z .given .1) _ (c .sum .ensures),
-)
+loop-again c =
+    let start = c .before .before .before .before .before .before .before .before .before in
+    let loop = c .before .before .before .before .before .before .before .loop in
+    let subobject = c .before .before .before .before .subobject in
+    let z = c .before .before .z in (
+      within-turn (now (start .args .xs)) _ (loop .inv .0) (subobject .result) (subobject .ensures .1) _ (z .given .1) _ (c .sum .ensures),
+      λ y. same-turn _ _ _ _ _ y _ _ (loop .inv .1 y) (omega arith) (subobject .result) (subobject .ensures .0 y) _ (z .given .1) _ (c .sum .ensures),
+    )
 
 returns-2 : tie.Need-returns-2 Inv-loop μ-loop
-returns-2 c = (λ y. same-done _ _ _ _ _ y _ _ (c .before .loop .inv .1 y) (omega arith), c .before .loop .inv .0)
+returns-2 c =
+    let loop = c .before .loop in
+    (λ y. same-done _ _ _ _ _ y _ _ (loop .inv .1 y) (omega arith), loop .inv .0)
 
 pub subobjects-spec : {M : Type 1} → statement M
 subobjects-spec =

@@ -12,10 +12,14 @@ returns-2 : tie.Need-returns-2
 returns-2 c = (λ y. text-short y _ _ _ (c .before .u8-at .ensures) (omega arith), tt)
 
 returns-3 : tie.Need-returns-3
-returns-3 c = (λ y. text-fine y _ _ _ (c .before .before .before .u8-at .ensures) (omega arith) (search needs), omega arith)
+returns-3 c =
+    let u8-at = c .before .before .before .u8-at in
+    (λ y. text-fine y _ _ _ (u8-at .ensures) (omega arith) (search needs), omega arith)
 
 returns-4 : tie.Need-returns-4
-returns-4 c = (λ y. text-open y _ _ _ (c .before .before .before .u8-at .ensures) (omega arith) (search needs) _ (omega arith), tt)
+returns-4 c =
+    let u8-at = c .before .before .before .u8-at in
+    (λ y. text-open y _ _ _ (u8-at .ensures) (omega arith) (search needs) _ (omega arith), tt)
 
 pub text-of-spec : {M : Type 1} → statement M
 text-of-spec =

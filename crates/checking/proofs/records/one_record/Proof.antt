@@ -9,13 +9,37 @@ returns : tie.Need-returns
 returns c = (record-short _ _ _ (c .if1 .taken), tt)
 
 rest-requires : tie.Need-rest-requires
-rest-requires c κs = (omega arith, record-passed _ _ (now (c .before .before .before .before .before .before .args .xs)) (c .before .before .before .before .if1 .left) _ (c .before .before .before .read-header .ensures) (c .before .before .check-header .result) (c .before .before .check-header .ensures) (c .enum-told .given .1))
+rest-requires c κs =
+    let start = c .before .before .before .before .before .before in
+    let if1 = c .before .before .before .before .if1 in
+    let read-header = c .before .before .before .read-header in
+    let check-header = c .before .before .check-header in (
+      omega arith,
+      record-passed _ _ (now (start .args .xs)) (if1 .left) _ (read-header .ensures) (check-header .result) (check-header .ensures)
+          (c .enum-told .given .1),
+    )
 
 returns-2 : tie.Need-returns-2
-returns-2 c = (record-on _ _ (now (c .before .before .before .before .before .before .before .args .xs)) (c .before .before .before .before .before .if1 .left) _ (c .before .before .before .before .read-header .ensures) (c .before .before .before .check-header .result) (c .before .before .before .check-header .ensures) (c .before .enum-told .given .1) _ (c .rest .ensures .0), c .rest .ensures .1)
+returns-2 c =
+    let start = c .before .before .before .before .before .before .before in
+    let if1 = c .before .before .before .before .before .if1 in
+    let read-header = c .before .before .before .before .read-header in
+    let check-header = c .before .before .before .check-header in (
+      record-on _ _ (now (start .args .xs)) (if1 .left) _ (read-header .ensures) (check-header .result) (check-header .ensures)
+          (c .before .enum-told .given .1) _ (c .rest .ensures .0),
+      c .rest .ensures .1,
+    )
 
 returns-3 : tie.Need-returns-3
-returns-3 c = (record-stop _ _ (now (c .before .before .before .before .before .before .before .args .xs)) (c .before .before .before .before .before .if1 .left) _ (c .before .before .before .before .read-header .ensures) (c .before .before .before .check-header .result) (c .before .before .before .check-header .ensures) _ (c .before .r .given .1), tt)
+returns-3 c =
+    let start = c .before .before .before .before .before .before .before in
+    let if1 = c .before .before .before .before .before .if1 in
+    let read-header = c .before .before .before .before .read-header in
+    let check-header = c .before .before .before .check-header in (
+      record-stop _ _ (now (start .args .xs)) (if1 .left) _ (read-header .ensures) (check-header .result) (check-header .ensures) _
+          (c .before .r .given .1),
+      tt,
+    )
 
 pub one-record-spec : {M : Type 1} → statement M
 one-record-spec =

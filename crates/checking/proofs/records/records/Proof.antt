@@ -20,19 +20,32 @@ loop-holds : tie.Need-loop-holds Inv-loop μ-loop
 loop-holds c = (omega arith, same-start _ _ _ _ _ _)
 
 sum-requires : tie.Need-sum-requires Inv-loop μ-loop
-sum-requires c κs = sum-ok (now (c .before .before .before .before .before .before .before .before .args .xs)) _ (c .before .before .before .before .before .before .loop .inv .0) (c .before .before .before .one-record .result) (c .before .before .before .one-record .ensures .1) _ (c .before .z .given .1) (omega arith)
+sum-requires c κs =
+    let start = c .before .before .before .before .before .before .before .before in
+    let loop = c .before .before .before .before .before .before .loop in
+    let one-record = c .before .before .before .one-record in
+    sum-ok (now (start .args .xs)) _ (loop .inv .0) (one-record .result) (one-record .ensures .1) _ (c .before .z .given .1) (omega arith)
 
 returns : tie.Need-returns Inv-loop μ-loop
-returns c = (same-stop _ _ _ _ _ _ _ _ (c .before .before .before .before .before .before .loop .inv .1) (omega arith) (c .before .before .before .one-record .result) (c .before .before .before .one-record .ensures .0) _ (c .before .r .given .1), tt)
+returns c =
+    let loop = c .before .before .before .before .before .before .loop in
+    let one-record = c .before .before .before .one-record in
+    (same-stop _ _ _ _ _ _ _ _ (loop .inv .1) (omega arith) (one-record .result) (one-record .ensures .0) _ (c .before .r .given .1), tt)
 
 loop-again : tie.Need-loop-again Inv-loop μ-loop
-loop-again c = (
-  within-turn (now (c .before .before .before .before .before .before .before .before .before .args .xs)) _ (c .before .before .before .before .before .before .before .loop .inv .0) (c .before .before .before .before .one-record .result) (c .before .before .before .before .one-record .ensures .1) _ (c .before .before .z .given .1) _ (c .sum .ensures),
-  same-turn _ _ _ _ _ _ _ _ (c .before .before .before .before .before .before .before .loop .inv .1) (omega arith) (c .before .before .before .before .one-record .result) (c .before .before .before .before .one-record .ensures .0) _ (c .before .before .z .given .1) _ (c .sum .ensures),
-)
+loop-again c =
+    let start = c .before .before .before .before .before .before .before .before .before in
+    let loop = c .before .before .before .before .before .before .before .loop in
+    let one-record = c .before .before .before .before .one-record in
+    let z = c .before .before .z in (
+      within-turn (now (start .args .xs)) _ (loop .inv .0) (one-record .result) (one-record .ensures .1) _ (z .given .1) _ (c .sum .ensures),
+      same-turn _ _ _ _ _ _ _ _ (loop .inv .1) (omega arith) (one-record .result) (one-record .ensures .0) _ (z .given .1) _ (c .sum .ensures),
+    )
 
 returns-2 : tie.Need-returns-2 Inv-loop μ-loop
-returns-2 c = (same-done _ _ _ _ _ _ _ _ (c .before .loop .inv .1) (omega arith), c .before .loop .inv .0)
+returns-2 c =
+    let loop = c .before .loop in
+    (same-done _ _ _ _ _ _ _ _ (loop .inv .1) (omega arith), loop .inv .0)
 
 pub records-spec : {M : Type 1} → statement M
 records-spec =

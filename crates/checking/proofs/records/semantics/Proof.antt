@@ -9,18 +9,46 @@ use Rattle.checking.proofs.records.semantics.Statement.{statement}
 use Rattle.checking.proofs.records.semantics.Tie as tie
 
 sum-requires : tie.Need-sum-requires
-sum-requires c κs = let w = within-fine _ _ (c .before .before .before .items .result) _ (c .before .s .given .1) (c .before .before .before .items .ensures .1) in omega (arith, w, c .before .before .before .before .before .before .before .pre)
+sum-requires c κs =
+    let start = c .before .before .before .before .before .before .before in
+    let items = c .before .before .before .items in
+    let w = within-fine _ _ (items .result) _ (c .before .s .given .1) (items .ensures .1) in
+    omega (arith, w, start .pre)
 
 returns : tie.Need-returns
 returns c =
-    let w = within-fine _ _ (c .before .before .before .before .items .result) _ (c .before .before .s .given .1) (c .before .before .before .before .items .ensures .1) in
-    (rw (c .sum .ensures) (semantics-on (c .before .before .before .before .before .before .before .before .args .year) (c .before .before .before .before .before .before .before .before .args .p) (now (c .before .before .before .before .before .before .before .before .args .xs)) (c .before .before .before .before .before .before .before .before .args .flag) (c .before .before .before .before .before .before .agree .result) (c .before .before .before .before .before .before .before .before .args .front) (c .before .before .before .before .before .before .agree .ensures) (c .before .before .before .before .before .if1 .taken) (Fine (c .before .before .s .given .0 .0)) (sym (c .before .before .s .given .1) ∙ c .before .before .before .before .items .ensures .0)), rw (c .sum .ensures) (omega (arith, w, c .before .before .before .before .before .before .before .before .pre)))
+    let start = c .before .before .before .before .before .before .before .before in
+    let agree = c .before .before .before .before .before .before .agree in
+    let if1 = c .before .before .before .before .before .if1 in
+    let items = c .before .before .before .before .items in
+    let s = c .before .before .s in
+    let w = within-fine _ _ (items .result) _ (s .given .1) (items .ensures .1) in (
+      rw (c .sum .ensures)
+          (semantics-on (start .args .year) (start .args .p) (now (start .args .xs)) (start .args .flag) (agree .result) (start .args .front)
+          (agree .ensures) (if1 .taken) (Fine (s .given .0 .0)) (sym (s .given .1) ∙ items .ensures .0)),
+      rw (c .sum .ensures) (omega (arith, w, start .pre)),
+    )
 
 returns-2 : tie.Need-returns-2
-returns-2 c = (semantics-on (c .before .before .before .before .before .before .before .args .year) (c .before .before .before .before .before .before .before .args .p) (now (c .before .before .before .before .before .before .before .args .xs)) (c .before .before .before .before .before .before .before .args .flag) (c .before .before .before .before .before .agree .result) (c .before .before .before .before .before .before .before .args .front) (c .before .before .before .before .before .agree .ensures) (c .before .before .before .before .if1 .taken) (Refused (c .before .r .given .0 .0)) (sym (c .before .r .given .1) ∙ c .before .before .before .items .ensures .0), tt)
+returns-2 c =
+    let start = c .before .before .before .before .before .before .before in
+    let agree = c .before .before .before .before .before .agree in
+    let if1 = c .before .before .before .before .if1 in
+    let items = c .before .before .before .items in
+    let r = c .before .r in (
+      semantics-on (start .args .year) (start .args .p) (now (start .args .xs)) (start .args .flag) (agree .result) (start .args .front)
+          (agree .ensures) (if1 .taken) (Refused (r .given .0 .0)) (sym (r .given .1) ∙ items .ensures .0),
+      tt,
+    )
 
 returns-3 : tie.Need-returns-3
-returns-3 c = (semantics-off (c .before .before .before .args .year) (c .before .before .before .args .p) (now (c .before .before .before .args .xs)) (c .before .before .before .args .flag) (c .before .agree .result) (c .before .before .before .args .front) (c .before .agree .ensures) (c .if1 .left), tt)
+returns-3 c =
+    let start = c .before .before .before in
+    let agree = c .before .agree in (
+      semantics-off (start .args .year) (start .args .p) (now (start .args .xs)) (start .args .flag) (agree .result) (start .args .front)
+          (agree .ensures) (c .if1 .left),
+      tt,
+    )
 
 pub semantics-spec : {M : Type 1} → statement M
 semantics-spec =

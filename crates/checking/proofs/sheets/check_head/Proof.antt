@@ -8,22 +8,35 @@ use Rattle.checking.proofs.sheets.check_head.Statement.{statement}
 use Rattle.checking.proofs.sheets.check_head.Tie as tie
 
 rest-of-passport-requires : tie.Need-rest-of-passport-requires
-rest-of-passport-requires c κs = rw (c .part .ensures) (omega (arith, part-length (now (c .before .before .before .args .s)) 96 304 (omega arith)))
+rest-of-passport-requires c κs =
+    let start = c .before .before .before in
+    rw (c .part .ensures) (omega (arith, part-length (now (start .args .s)) 96 304 (omega arith)))
 
 carried-requires : tie.Need-carried-requires
-carried-requires c κs = rw (c .part2 .ensures) (omega (arith, part-length (now (c .before .before .before .before .before .before .before .before .args .s)) 444 4 (omega arith)))
+carried-requires c κs =
+    let start = c .before .before .before .before .before .before .before .before in
+    rw (c .part2 .ensures) (omega (arith, part-length (now (start .args .s)) 444 4 (omega arith)))
 
 returns : tie.Need-returns
 unfolding descriptorChecks reservedChecks
 returns c =
     let year = c .before .before .before .before .before .before .before .before .before .before .before .before .args .year in
-    c .before .before .before .before .before .before .before .before .before .before .check-passport .ensures year
-    ▸ (rw (c .before .before .before .before .before .before .before .before .before .part .ensures) at (c .before .before .before .before .before .before .before .before .rest-of-passport .ensures))
-    ▸ c .before .before .before .before .before .before .before .fixed .ensures year
-    ▸ c .before .before .before .before .before .before .fixed2 .ensures year
-    ▸ c .before .before .before .before .before .text .ensures year
-    ▸ (rw (c .before .before .before .before .part2 .ensures) at (c .before .before .before .carried .ensures))
-    ▸ (rw (c .before .all-zero .ensures, c .before .before .part3 .ensures) at (c .demand .ensures year))
+    let check-passport = c .before .before .before .before .before .before .before .before .before .before .check-passport in
+    let part = c .before .before .before .before .before .before .before .before .before .part in
+    let rest-of-passport = c .before .before .before .before .before .before .before .before .rest-of-passport in
+    let fixed = c .before .before .before .before .before .before .before .fixed in
+    let fixed2 = c .before .before .before .before .before .before .fixed2 in
+    let text = c .before .before .before .before .before .text in
+    let part2 = c .before .before .before .before .part2 in
+    let carried = c .before .before .before .carried in
+    let part3 = c .before .before .part3 in
+    check-passport .ensures year
+    ▸ (rw (part .ensures) at (rest-of-passport .ensures))
+    ▸ fixed .ensures year
+    ▸ fixed2 .ensures year
+    ▸ text .ensures year
+    ▸ (rw (part2 .ensures) at (carried .ensures))
+    ▸ (rw (c .before .all-zero .ensures, part3 .ensures) at (c .demand .ensures year))
 
 pub check-head-spec : {M : Type 1} → statement M
 check-head-spec =

@@ -3,7 +3,9 @@ use Rattle.checking.proofs.sheets.text.Statement.{statement}
 use Rattle.checking.proofs.sheets.text.Tie as tie
 
 returns : tie.Need-returns
-returns c = λ y. rw (c .before .is-text-field .ensures, c .before .before .part .ensures) at (c .demand .ensures y)
+returns c =
+    let part = c .before .before .part in
+    λ y. rw (c .before .is-text-field .ensures, part .ensures) at (c .demand .ensures y)
 
 pub text-spec : {M : Type 1} → statement M
 text-spec = tie.close (tie.spec (λ c κs. search needs) (λ c κs. search needs) (λ c κs. search needs) returns)
