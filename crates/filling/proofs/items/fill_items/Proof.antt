@@ -19,19 +19,36 @@ abbrev μ-loop : tie.MeasureT-loop
 μ-loop xs table₀ bytes₀ acc₀ table bytes acc = length xs - acc .place
 
 loop-holds : tie.Need-loop-holds Inv-loop μ-loop
-loop-holds c = end-start itemIn itemSize flattenItem (c .before .before .before .args .xs .now) (c .before .before .before .args .c) _ [] _ item-grows
+loop-holds c =
+    let start = c .before .before .before in
+    end-start itemIn itemSize flattenItem (start .args .xs .now) (start .args .c) _ [] _ item-grows
 
 fill-item-requires : tie.Need-fill-item-requires Inv-loop μ-loop
-fill-item-requires c κs = item-room _ _ _ _ _ _ (end-room itemIn itemSize flattenItem (c .before .before .before .before .before .before .before .before .args .xs .now) (c .before .before .before .before .before .before .before .before .args .c) _ [] _ item-grows _ _ [] _ (c .before .before .before .before .loop .inv) (omega arith) _ _ (c .before .before .before .before .before .before .before .before .pre))
+fill-item-requires c κs =
+    let start = c .before .before .before .before .before .before .before .before in
+    let loop = c .before .before .before .before .loop in
+    item-room _ _ _ _ _ _
+    (end-room itemIn itemSize flattenItem (start .args .xs .now) (start .args .c) _ [] _ item-grows _ _ [] _ (loop .inv) (omega arith) _ _
+    (start .pre))
 
 loop-less : tie.Need-loop-less Inv-loop μ-loop
-loop-less c = omega (arith, ap (λ (z : Cursor). z .place) (c .before .before .before .before .fill-item .ensures .0))
+loop-less c =
+    let fill-item = c .before .before .before .before .fill-item in
+    omega (arith, ap (λ (z : Cursor). z .place) (fill-item .ensures .0))
 
 loop-again : tie.Need-loop-again Inv-loop μ-loop
-loop-again c = end-turn itemIn itemSize flattenItem (c .before .before .before .before .before .before .before .before .before .before .before .before .before .args .xs .now) (c .before .before .before .before .before .before .before .before .before .before .before .before .before .args .c) _ [] _ item-grows _ _ [] _ (c .before .before .before .before .before .before .before .before .before .loop .inv) (omega arith) _ _ [] _ (c .before .before .before .before .fill-item .ensures .0) (c .before .before .before .before .fill-item .ensures .1)
+loop-again c =
+    let start = c .before .before .before .before .before .before .before .before .before .before .before .before .before in
+    let loop = c .before .before .before .before .before .before .before .before .before .loop in
+    let fill-item = c .before .before .before .before .fill-item in
+    end-turn itemIn itemSize flattenItem (start .args .xs .now) (start .args .c) _ [] _ item-grows _ _ [] _ (loop .inv) (omega arith) _ _ [] _
+    (fill-item .ensures .0) (fill-item .ensures .1)
 
 returns : tie.Need-returns Inv-loop μ-loop
-returns c = end-done itemIn itemSize flattenItem (c .before .before .before .before .before .before .args .xs .now) (c .before .before .before .before .before .before .args .c) _ [] _ item-grows _ _ [] _ (c .before .before .loop .inv) (omega arith)
+returns c =
+    let start = c .before .before .before .before .before .before in
+    let loop = c .before .before .loop in
+    end-done itemIn itemSize flattenItem (start .args .xs .now) (start .args .c) _ [] _ item-grows _ _ [] _ (loop .inv) (omega arith)
 
 pub fill-items-spec : {M : Type 1} → statement M
 fill-items-spec =

@@ -5,22 +5,49 @@ use Rattle.filling.proofs.parts.fill_subobject.Statement.{statement}
 use Rattle.filling.proofs.parts.fill_subobject.Tie as tie
 
 u16-at-requires : tie.Need-u16-at-requires
-u16-at-requires c κs = let a = subobject-some (c .before .before .before .before .args .xs .now) (c .before .before .before .before .args .s) (c .before .before .before .before .args .c) _ _ _ _ (c .before .before .before .before .pre) in omega (arith, a)
+u16-at-requires c κs =
+    let start = c .before .before .before .before in
+    let a = subobject-some (start .args .xs .now) (start .args .s) (start .args .c) _ _ _ _ (start .pre) in
+    omega (arith, a)
 
 add-u16-at : tie.Need-add-u16-at
-add-u16-at c = let a = subobject-some (c .before .before .before .before .before .args .xs .now) (c .before .before .before .before .before .args .s) (c .before .before .before .before .before .args .c) _ _ _ _ (c .before .before .before .before .before .pre) in omega (arith, a)
+add-u16-at c =
+    let start = c .before .before .before .before .before in
+    let a = subobject-some (start .args .xs .now) (start .args .s) (start .args .c) _ _ _ _ (start .pre) in
+    omega (arith, a)
 
 u16-at-requires-2 : tie.Need-u16-at-requires-2
-u16-at-requires-2 c κs = let a = subobject-some (c .before .before .before .before .before .args .xs .now) (c .before .before .before .before .before .args .s) (c .before .before .before .before .before .args .c) _ _ _ _ (c .before .before .before .before .before .pre) in omega (arith, a)
+u16-at-requires-2 c κs =
+    let start = c .before .before .before .before .before in
+    let a = subobject-some (start .args .xs .now) (start .args .s) (start .args .c) _ _ _ _ (start .pre) in
+    omega (arith, a)
 
 add-fill-part : tie.Need-add-fill-part
-add-fill-part c = let a = subobject-some (c .before .before .before .before .before .before .args .xs .now) (c .before .before .before .before .before .before .args .s) (c .before .before .before .before .before .before .args .c) _ _ _ _ (c .before .before .before .before .before .before .pre) in omega (arith, a)
+add-fill-part c =
+    let start = c .before .before .before .before .before .before in
+    let a = subobject-some (start .args .xs .now) (start .args .s) (start .args .c) _ _ _ _ (start .pre) in
+    omega (arith, a)
 
 fill-part-requires : tie.Need-fill-part-requires
-fill-part-requires c κs = (subobject-ask (c .before .before .before .before .before .before .before .before .before .args .xs .now) (c .before .before .before .before .before .before .before .before .before .args .s) (c .before .before .before .before .before .before .before .before .before .args .c) _ _ (c .before .before .before .before .u16-at .ensures) (c .before .before .before .u16-at2 .ensures) _ _ _ _ (c .before .before .before .before .before .before .before .before .before .pre), omega arith)
+fill-part-requires c κs =
+    let start = c .before .before .before .before .before .before .before .before .before in
+    let u16-at = c .before .before .before .before .u16-at in
+    let u16-at2 = c .before .before .before .u16-at2 in (
+      subobject-ask (start .args .xs .now) (start .args .s) (start .args .c) _ _ (u16-at .ensures) (u16-at2 .ensures) _ _ _ _ (start .pre),
+      omega arith,
+    )
 
 returns : tie.Need-returns
-returns c = (subobject-moved (c .before .before .before .before .before .before .before .before .before .before .before .before .before .before .before .before .args .xs .now) (c .before .before .before .before .before .before .before .before .before .before .before .before .before .before .before .before .args .s) (c .before .before .before .before .before .before .before .before .before .before .before .before .before .before .before .before .args .c) _ _ (c .before .before .before .before .before .before .before .before .before .before .before .u16-at .ensures) (c .before .before .before .before .before .before .before .before .before .before .u16-at2 .ensures) _ (c .before .before .before .before .before .before .fill-part .ensures .0), subobject-wrote (c .before .before .before .before .before .before .before .before .before .before .before .before .before .before .before .before .args .xs .now) (c .before .before .before .before .before .before .before .before .before .before .before .before .before .before .before .before .args .s) (c .before .before .before .before .before .before .before .before .before .before .before .before .before .before .before .before .args .c) _ _ (c .before .before .before .before .before .before .before .before .before .before .before .u16-at .ensures) (c .before .before .before .before .before .before .before .before .before .before .u16-at2 .ensures) _ _ _ _ _ _ (c .before .before .before .before .before .before .fill-part .ensures .1))
+returns c =
+    let start = c .before .before .before .before .before .before .before .before .before .before .before .before .before .before .before .before in
+    let u16-at = c .before .before .before .before .before .before .before .before .before .before .before .u16-at in
+    let u16-at2 = c .before .before .before .before .before .before .before .before .before .before .u16-at2 in
+    let fill-part = c .before .before .before .before .before .before .fill-part in (
+      subobject-moved (start .args .xs .now) (start .args .s) (start .args .c) _ _ (u16-at .ensures) (u16-at2 .ensures) _
+          (fill-part .ensures .0),
+      subobject-wrote (start .args .xs .now) (start .args .s) (start .args .c) _ _ (u16-at .ensures) (u16-at2 .ensures) _ _ _ _ _ _
+          (fill-part .ensures .1),
+    )
 
 pub fill-subobject-spec : {M : Type 1} → statement M
 fill-subobject-spec =

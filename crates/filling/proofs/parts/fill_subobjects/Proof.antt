@@ -13,16 +13,31 @@ abbrev μ-loop : tie.MeasureT-loop
 μ-loop xs s n table₀ elements₀ bytes₀ left₀ acc₀ table elements bytes left acc = left
 
 loop-holds : tie.Need-loop-holds Inv-loop μ-loop
-loop-holds c = turns-start (subobjectIn (c .before .before .before .before .args .s)) (subobjectSize (c .before .before .before .before .args .s)) flattenPart (c .before .before .before .before .args .xs .now) (c .before .before .before .before .args .c) _ _ _ (c .before .before .before .before .args .n)
+loop-holds c =
+    let start = c .before .before .before .before in
+    turns-start (subobjectIn (start .args .s)) (subobjectSize (start .args .s)) flattenPart (start .args .xs .now) (start .args .c) _ _ _
+    (start .args .n)
 
 fill-subobject-requires : tie.Need-fill-subobject-requires Inv-loop μ-loop
-fill-subobject-requires c κs = turns-room (subobjectIn (c .before .before .before .before .before .before .before .before .before .args .s)) (subobjectSize (c .before .before .before .before .before .before .before .before .before .args .s)) flattenPart (c .before .before .before .before .before .before .before .before .before .args .xs .now) (c .before .before .before .before .before .before .before .before .before .args .c) _ _ _ (c .before .before .before .before .before .before .before .before .before .args .n) _ _ _ _ _ (c .before .before .before .before .loop .inv) (omega arith) _ (c .before .before .before .before .before .before .before .before .before .pre)
+fill-subobject-requires c κs =
+    let start = c .before .before .before .before .before .before .before .before .before in
+    let loop = c .before .before .before .before .loop in
+    turns-room (subobjectIn (start .args .s)) (subobjectSize (start .args .s)) flattenPart (start .args .xs .now) (start .args .c) _ _ _
+    (start .args .n) _ _ _ _ _ (loop .inv) (omega arith) _ (start .pre)
 
 loop-again : tie.Need-loop-again Inv-loop μ-loop
-loop-again c = turns-turn (subobjectIn (c .before .before .before .before .before .before .before .before .before .before .before .before .before .before .before .before .args .s)) (subobjectSize (c .before .before .before .before .before .before .before .before .before .before .before .before .before .before .before .before .args .s)) flattenPart (c .before .before .before .before .before .before .before .before .before .before .before .before .before .before .before .before .args .xs .now) (c .before .before .before .before .before .before .before .before .before .before .before .before .before .before .before .before .args .c) _ _ _ (c .before .before .before .before .before .before .before .before .before .before .before .before .before .before .before .before .args .n) _ _ _ _ _ (c .before .before .before .before .before .before .before .before .before .before .before .loop .inv) (omega arith) _ _ _ _ (c .before .before .before .before .before .before .fill-subobject .ensures .0) (c .before .before .before .before .before .before .fill-subobject .ensures .1)
+loop-again c =
+    let start = c .before .before .before .before .before .before .before .before .before .before .before .before .before .before .before .before in
+    let inv = c .before .before .before .before .before .before .before .before .before .before .before .loop .inv in
+    let did = c .before .before .before .before .before .before .fill-subobject .ensures in
+    turns-turn (subobjectIn (start .args .s)) (subobjectSize (start .args .s)) flattenPart (start .args .xs .now) (start .args .c) _ _ _
+    (start .args .n) _ _ _ _ _ inv (omega arith) _ _ _ _ (did .0) (did .1)
 
 returns : tie.Need-returns Inv-loop μ-loop
-returns c = turns-done (subobjectIn (c .before .before .before .before .before .before .args .s)) (subobjectSize (c .before .before .before .before .before .before .args .s)) flattenPart (c .before .before .before .before .before .before .args .xs .now) (c .before .before .before .before .before .before .args .c) _ _ _ (c .before .before .before .before .before .before .args .n) _ _ _ _ _ (c .before .loop .inv) (omega arith)
+returns c =
+    let start = c .before .before .before .before .before .before in
+    turns-done (subobjectIn (start .args .s)) (subobjectSize (start .args .s)) flattenPart (start .args .xs .now) (start .args .c) _ _ _
+    (start .args .n) _ _ _ _ _ (c .before .loop .inv) (omega arith)
 
 pub fill-subobjects-spec : {M : Type 1} → statement M
 fill-subobjects-spec =

@@ -6,13 +6,27 @@ use Rattle.filling.proofs.parts.fill_text.Statement.{statement}
 use Rattle.filling.proofs.parts.fill_text.Tie as tie
 
 u8-at-requires : tie.Need-u8-at-requires
-u8-at-requires c κs = text-some (c .before .before .before .args .xs .now) (c .before .before .before .args .at) 0 (c .before .before .before .args .text) (c .if1 .taken) (c .before .before .before .pre .0)
+u8-at-requires c κs =
+    let start = c .before .before .before in
+    text-some (start .args .xs .now) (start .args .at) 0 (start .args .text) (c .if1 .taken) (start .pre .0)
 
 put-bytes-requires : tie.Need-put-bytes-requires
-put-bytes-requires c κs = text-ask (c .before .before .before .before .before .args .xs .now) (c .before .before .before .before .before .args .at) _ (c .before .before .before .before .before .args .text) (c .before .before .if1 .taken) (c .before .before .before .before .before .pre .0) (c .before .u8-at .ensures) _ _ (c .before .before .before .before .before .pre .1)
+put-bytes-requires c κs =
+    let start = c .before .before .before .before .before in
+    let if1 = c .before .before .if1 in
+    text-ask (start .args .xs .now) (start .args .at) _ (start .args .text) (if1 .taken) (start .pre .0) (c .before .u8-at .ensures) _ _
+    (start .pre .1)
 
 returns : tie.Need-returns
-returns c = ((text-length (c .before .before .before .before .before .before .before .before .args .xs .now) (c .before .before .before .before .before .before .before .before .args .at) _ (c .before .before .before .before .before .before .before .before .args .text) (c .before .before .before .before .before .if1 .taken) (c .before .before .before .before .before .before .before .before .pre .0) (c .before .before .before .before .u8-at .ensures), omega arith), rw (← text-is (c .before .before .before .before .before .before .before .before .args .xs .now) (c .before .before .before .before .before .before .before .before .args .at) _ (c .before .before .before .before .before .before .before .before .args .text) (c .before .before .before .before .before .if1 .taken) (c .before .before .before .before .before .before .before .before .pre .0) (c .before .before .before .before .u8-at .ensures)) (c .before .before .put-bytes .ensures))
+returns c =
+    let start = c .before .before .before .before .before .before .before .before in
+    let if1 = c .before .before .before .before .before .if1 in
+    let u8-at = c .before .before .before .before .u8-at in
+    let put-bytes = c .before .before .put-bytes in (
+      (text-length (start .args .xs .now) (start .args .at) _ (start .args .text) (if1 .taken) (start .pre .0) (u8-at .ensures), omega arith),
+      rw (← text-is (start .args .xs .now) (start .args .at) _ (start .args .text) (if1 .taken) (start .pre .0) (u8-at .ensures))
+          (put-bytes .ensures),
+    )
 
 returns-2 : tie.Need-returns-2
 returns-2 c = rw (c .if1 .left) ((refl, omega arith), refl)

@@ -24,7 +24,14 @@ slice-write-out-3 : tie.Need-slice-write-out-3 Inv-loop μ-loop
 slice-write-out-3 c = simp length-set (omega arith)
 
 loop-again : tie.Need-loop-again Inv-loop μ-loop
-loop-again c = put-turn (2 ∷ 2 ∷ 4 ∷ []) (c .before .before .before .before .before .before .before .args .xs .now) (c .before .before .before .before .before .before .before .args .at) (c .before .before .before .before .before .before .before .args .n) (c .before .before .before .before .before .before .before .args .w) _ (c .before .before .before .before .loop .i) (c .before .before .before .before .loop .out) _ (c .before .before .before .before .loop .inv) (omega arith) (point-turn (c .before .before .before .before .loop .out) (c .before .before .before .before .before .before .before .args .xs .now) (c .before .before .before .before .before .before .before .args .w + 3 * c .before .before .before .before .loop .i) (c .before .before .before .before .before .before .before .args .at + 8 * c .before .before .before .before .loop .i) _ _ _ (c .before .before .u16-at .ensures) (c .before .u16-at2 .ensures) (c .u32-at .ensures))
+loop-again c =
+    let start = c .before .before .before .before .before .before .before in
+    let loop = c .before .before .before .before .loop in
+    let u16-at = c .before .before .u16-at in
+    put-turn (2 ∷ 2 ∷ 4 ∷ []) (start .args .xs .now) (start .args .at) (start .args .n) (start .args .w) _ (loop .i) (loop .out) _ (loop .inv)
+    (omega arith)
+    (point-turn (loop .out) (start .args .xs .now) (start .args .w + 3 * loop .i) (start .args .at + 8 * loop .i) _ _ _ (u16-at .ensures)
+    (c .before .u16-at2 .ensures) (c .u32-at .ensures))
 
 returns : tie.Need-returns Inv-loop μ-loop
 returns c = put-done _ _ _ _ _ _ _ _ (c .before .loop .inv) (omega arith)

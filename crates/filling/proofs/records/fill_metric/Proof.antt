@@ -4,13 +4,33 @@ use Rattle.filling.proofs.records.fill_metric.Statement.{statement}
 use Rattle.filling.proofs.records.fill_metric.Tie as tie
 
 fill-part-requires : tie.Need-fill-part-requires
-fill-part-requires c κs = (metric-first (c .before .before .before .before .before .before .before .args .xs .now) (c .before .before .before .before .before .before .before .args .s) (c .before .before .before .before .before .before .before .args .count) (c .before .before .before .before .before .before .before .args .n) (c .before .before .before .before .before .before .before .args .c) _ _ _ _ (c .before .before .before .before .before .before .before .pre .0), c .before .before .before .before .before .before .before .pre .1)
+fill-part-requires c κs =
+    let start = c .before .before .before .before .before .before .before in (
+      metric-first (start .args .xs .now) (start .args .s) (start .args .count) (start .args .n) (start .args .c) _ _ _ _ (start .pre .0),
+      start .pre .1,
+    )
 
 fill-subobjects-requires : tie.Need-fill-subobjects-requires
-fill-subobjects-requires c κs = room-kept _ _ _ _ _ _ _ _ _ _ _ _ (c .before .before .before .before .before .before .before .before .before .fill-part .ensures .1) (metric-later (c .before .before .before .before .before .before .before .before .before .before .before .before .before .before .before .before .before .args .xs .now) (c .before .before .before .before .before .before .before .before .before .before .before .before .before .before .before .before .before .args .s) (c .before .before .before .before .before .before .before .before .before .before .before .before .before .before .before .before .before .args .count) (c .before .before .before .before .before .before .before .before .before .before .before .before .before .before .before .before .before .args .n) (c .before .before .before .before .before .before .before .before .before .before .before .before .before .before .before .before .before .args .c) _ _ _ _ (c .before .before .before .before .before .before .before .before .before .before .before .before .before .before .before .before .before .pre .0) _ (c .before .before .before .before .before .before .before .before .before .fill-part .ensures .0))
+fill-subobjects-requires c κs =
+    let start = c .before .before .before .before .before .before .before .before .before .before .before .before .before .before .before
+    .before .before in
+    let fill-part = c .before .before .before .before .before .before .before .before .before .fill-part in
+    room-kept _ _ _ _ _ _ _ _ _ _ _ _ (fill-part .ensures .1)
+    (metric-later (start .args .xs .now) (start .args .s) (start .args .count) (start .args .n) (start .args .c) _ _ _ _ (start .pre .0) _
+    (fill-part .ensures .0))
 
 returns : tie.Need-returns
-returns c = (metric-moved (c .before .before .before .before .before .before .before .before .before .before .before .before .before .before .before .before .before .before .before .before .before .before .before .before .args .xs .now) (c .before .before .before .before .before .before .before .before .before .before .before .before .before .before .before .before .before .before .before .before .before .before .before .before .args .s) (c .before .before .before .before .before .before .before .before .before .before .before .before .before .before .before .before .before .before .before .before .before .before .before .before .args .count) (c .before .before .before .before .before .before .before .before .before .before .before .before .before .before .before .before .before .before .before .before .before .before .before .before .args .n) (c .before .before .before .before .before .before .before .before .before .before .before .before .before .before .before .before .before .before .before .before .before .before .before .before .args .c) _ (c .before .before .before .before .before .before .before .before .before .before .before .before .before .before .before .before .fill-part .ensures .0) _ (c .before .before .before .before .before .before .fill-subobjects .ensures .0), metric-wrote (c .before .before .before .before .before .before .before .before .before .before .before .before .before .before .before .before .before .before .before .before .before .before .before .before .args .xs .now) (c .before .before .before .before .before .before .before .before .before .before .before .before .before .before .before .before .before .before .before .before .before .before .before .before .args .s) (c .before .before .before .before .before .before .before .before .before .before .before .before .before .before .before .before .before .before .before .before .before .before .before .before .args .count) (c .before .before .before .before .before .before .before .before .before .before .before .before .before .before .before .before .before .before .before .before .before .before .before .before .args .n) (c .before .before .before .before .before .before .before .before .before .before .before .before .before .before .before .before .before .before .before .before .before .before .before .before .args .c) _ (c .before .before .before .before .before .before .before .before .before .before .before .before .before .before .before .before .fill-part .ensures .0) _ _ _ _ _ _ _ _ _ (c .before .before .before .before .before .before .before .before .before .before .before .before .before .before .before .before .fill-part .ensures .1) (c .before .before .before .before .before .before .fill-subobjects .ensures .1))
+returns c =
+    let start = c .before .before .before .before .before .before .before .before .before .before .before .before .before .before .before
+    .before .before .before .before .before .before .before .before .before in
+    let fill-part = c .before .before .before .before .before .before .before .before .before .before .before .before .before .before .before
+    .before .fill-part in
+    let fill-subobjects = c .before .before .before .before .before .before .fill-subobjects in (
+      metric-moved (start .args .xs .now) (start .args .s) (start .args .count) (start .args .n) (start .args .c) _ (fill-part .ensures .0) _
+          (fill-subobjects .ensures .0),
+      metric-wrote (start .args .xs .now) (start .args .s) (start .args .count) (start .args .n) (start .args .c) _
+          (fill-part .ensures .0) _ _ _ _ _ _ _ _ _ (fill-part .ensures .1) (fill-subobjects .ensures .1),
+    )
 
 pub fill-metric-spec : {M : Type 1} → statement M
 fill-metric-spec =

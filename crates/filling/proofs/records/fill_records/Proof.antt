@@ -17,16 +17,35 @@ abbrev μ-loop : tie.MeasureT-loop
 μ-loop xs n table₀ elements₀ bytes₀ left₀ acc₀ table elements bytes left acc = left
 
 loop-holds : tie.Need-loop-holds Inv-loop μ-loop
-loop-holds c = (turns-start recordIn recordSize flattenRecord (c .before .before .before .before .args .xs .now) (c .before .before .before .before .args .c) _ _ _ (c .before .before .before .before .args .n), c .before .before .before .before .pre .1)
+loop-holds c =
+    let start = c .before .before .before .before in
+    (turns-start recordIn recordSize flattenRecord (start .args .xs .now) (start .args .c) _ _ _ (start .args .n), start .pre .1)
 
 fill-record-requires : tie.Need-fill-record-requires Inv-loop μ-loop
-fill-record-requires c κs = (turns-room recordIn recordSize flattenRecord (c .before .before .before .before .before .before .before .before .before .args .xs .now) (c .before .before .before .before .before .before .before .before .before .args .c) _ _ _ (c .before .before .before .before .before .before .before .before .before .args .n) _ _ _ _ _ (c .before .before .before .before .loop .inv .0) (omega arith) _ (c .before .before .before .before .before .before .before .before .before .pre .0), each-turn RecordFits recordSize (c .before .before .before .before .loop .left) (c .before .before .before .before .loop .acc .place) (c .before .before .before .before .before .before .before .before .before .args .xs .now) (omega arith) (c .before .before .before .before .loop .inv .1) .0)
+fill-record-requires c κs =
+    let start = c .before .before .before .before .before .before .before .before .before in
+    let loop = c .before .before .before .before .loop in (
+      turns-room recordIn recordSize flattenRecord (start .args .xs .now) (start .args .c) _ _ _ (start .args .n) _ _ _ _ _ (loop .inv .0)
+          (omega arith) _ (start .pre .0),
+      each-turn RecordFits recordSize (loop .left) (loop .acc .place) (start .args .xs .now) (omega arith) (loop .inv .1) .0,
+    )
 
 loop-again : tie.Need-loop-again Inv-loop μ-loop
-loop-again c = (turns-turn recordIn recordSize flattenRecord (c .before .before .before .before .before .before .before .before .before .before .before .before .before .before .before .before .args .xs .now) (c .before .before .before .before .before .before .before .before .before .before .before .before .before .before .before .before .args .c) _ _ _ (c .before .before .before .before .before .before .before .before .before .before .before .before .before .before .before .before .args .n) _ _ _ _ _ (c .before .before .before .before .before .before .before .before .before .before .before .loop .inv .0) (omega arith) _ _ _ _ (c .before .before .before .before .before .before .fill-record .ensures .0) (c .before .before .before .before .before .before .fill-record .ensures .1), each-next RecordFits recordSize (c .before .before .before .before .before .before .before .before .before .before .before .loop .left) (c .before .before .before .before .before .before .before .before .before .before .before .loop .acc .place) _ (c .before .before .before .before .before .before .before .before .before .before .before .before .before .before .before .before .args .xs .now) (omega arith) (c .before .before .before .before .before .before .before .before .before .before .before .loop .inv .1) (ap (λ (z : Cursor). z .place) (c .before .before .before .before .before .before .fill-record .ensures .0)))
+loop-again c =
+    let start = c .before .before .before .before .before .before .before .before .before .before .before .before .before .before .before .before in
+    let loop = c .before .before .before .before .before .before .before .before .before .before .before .loop in
+    let fill-record = c .before .before .before .before .before .before .fill-record in (
+      turns-turn recordIn recordSize flattenRecord (start .args .xs .now) (start .args .c) _ _ _ (start .args .n) _ _ _ _ _ (loop .inv .0)
+          (omega arith) _ _ _ _ (fill-record .ensures .0) (fill-record .ensures .1),
+      each-next RecordFits recordSize (loop .left) (loop .acc .place) _ (start .args .xs .now) (omega arith) (loop .inv .1)
+          (ap (λ (z : Cursor). z .place) (fill-record .ensures .0)),
+    )
 
 returns : tie.Need-returns Inv-loop μ-loop
-returns c = turns-done recordIn recordSize flattenRecord (c .before .before .before .before .before .before .args .xs .now) (c .before .before .before .before .before .before .args .c) _ _ _ (c .before .before .before .before .before .before .args .n) _ _ _ _ _ (c .before .loop .inv .0) (omega arith)
+returns c =
+    let start = c .before .before .before .before .before .before in
+    turns-done recordIn recordSize flattenRecord (start .args .xs .now) (start .args .c) _ _ _ (start .args .n) _ _ _ _ _
+    (c .before .loop .inv .0) (omega arith)
 
 pub fill-records-spec : {M : Type 1} → statement M
 fill-records-spec =

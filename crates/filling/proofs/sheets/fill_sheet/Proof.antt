@@ -5,13 +5,23 @@ use Rattle.filling.proofs.sheets.fill_sheet.Statement.{statement}
 use Rattle.filling.proofs.sheets.fill_sheet.Tie as tie
 
 u32-at-requires : tie.Need-u32-at-requires
-u32-at-requires c κs = let a = sheet-long (c .before .before .before .before .args .s .now) _ _ _ (c .before .before .before .before .pre) in omega (arith, a)
+u32-at-requires c κs =
+    let start = c .before .before .before .before in
+    let a = sheet-long (start .args .s .now) _ _ _ (start .pre) in
+    omega (arith, a)
 
 fill-records-requires : tie.Need-fill-records-requires
-fill-records-requires c κs = sheet-asks (c .before .before .before .before .before .before .before .before .args .s .now) _ _ _ (c .before .before .before .before .before .before .before .before .pre) _ (c .before .before .before .u32-at .ensures)
+fill-records-requires c κs =
+    let start = c .before .before .before .before .before .before .before .before in
+    let u32-at = c .before .before .before .u32-at in
+    sheet-asks (start .args .s .now) _ _ _ (start .pre) _ (u32-at .ensures)
 
 returns : tie.Need-returns
-returns c = sheet-filled (c .before .before .before .before .before .before .before .before .before .before .before .before .before .before .before .args .s .now) _ (c .before .before .before .before .before .before .before .before .before .before .u32-at .ensures) _ _ _ _ _ _ (c .before .before .before .before .before .before .fill-records .ensures .1)
+returns c =
+    let start = c .before .before .before .before .before .before .before .before .before .before .before .before .before .before .before in
+    let u32-at = c .before .before .before .before .before .before .before .before .before .before .u32-at in
+    let fill-records = c .before .before .before .before .before .before .fill-records in
+    sheet-filled (start .args .s .now) _ (u32-at .ensures) _ _ _ _ _ _ (fill-records .ensures .1)
 
 pub fill-sheet-spec : {M : Type 1} → statement M
 fill-sheet-spec =
