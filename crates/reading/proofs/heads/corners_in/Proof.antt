@@ -10,10 +10,16 @@ part-requires : tie.Need-part-requires
 part-requires c κs = let a = read-long _ (c .before .pre) in omega (arith, a)
 
 rest-corners-requires : tie.Need-rest-corners-requires
-rest-corners-requires c κs = let a = read-long _ (c .before .before .pre) in rw (c .part .ensures) (omega (arith, part-length (now (c .before .before .args .s)) 96 304 (omega (arith, a))))
+rest-corners-requires c κs =
+    let start = c .before .before in
+    let a = read-long _ (start .pre) in
+    rw (c .part .ensures) (omega (arith, part-length (now (start .args .s)) 96 304 (omega (arith, a))))
 
 returns : tie.Need-returns
-returns c = λ t e. rw (read-head (now (c .before .before .before .before .args .s)) t e, c .corners-of .ensures, c .before .rest-corners .ensures, c .before .before .part .ensures)
+returns c =
+    let start = c .before .before .before .before in
+    let part = c .before .before .part in
+    λ t e. rw (read-head (now (start .args .s)) t e, c .corners-of .ensures, c .before .rest-corners .ensures, part .ensures)
 
 pub corners-in-spec : {M : Type 1} → statement M
 corners-in-spec =

@@ -6,13 +6,23 @@ use Rattle.reading.proofs.heads.corners_of.Statement.{statement}
 use Rattle.reading.proofs.heads.corners_of.Tie as tie
 
 corners-in-requires : tie.Need-corners-in-requires
-corners-in-requires c κs = read (c .before .before .before .before .args .at .year) (now (c .before .before .before .before .args .s)) _ (seen _ _ _ _ (c .before .before .check .ensures) (c .enum-told .given .1))
+corners-in-requires c κs =
+    let start = c .before .before .before .before in
+    let check = c .before .before .check in
+    read (start .args .at .year) (now (start .args .s)) _ (seen _ _ _ _ (check .ensures) (c .enum-told .given .1))
 
 returns : tie.Need-returns
-returns c = corners-right (c .before .before .before .before .before .args .at .year) (now (c .before .before .before .before .before .args .s)) _ (seen _ _ _ _ (c .before .before .before .check .ensures) (c .before .enum-told .given .1)) _ (c .corners-in .ensures)
+returns c =
+    let start = c .before .before .before .before .before in
+    let check = c .before .before .before .check in
+    corners-right (start .args .at .year) (now (start .args .s)) _ (seen _ _ _ _ (check .ensures) (c .before .enum-told .given .1)) _
+    (c .corners-in .ensures)
 
 returns-2 : tie.Need-returns-2
-returns-2 c = corners-refused (c .before .before .before .before .before .args .at .year) (now (c .before .before .before .before .before .args .s)) _ _ (c .before .before .before .check .ensures) (c .before .r .given .1)
+returns-2 c =
+    let start = c .before .before .before .before .before in
+    let check = c .before .before .before .check in
+    corners-refused (start .args .at .year) (now (start .args .s)) _ _ (check .ensures) (c .before .r .given .1)
 
 pub corners-of-spec : {M : Type 1} → statement M
 corners-of-spec =

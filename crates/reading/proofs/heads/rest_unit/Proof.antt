@@ -3,7 +3,11 @@ use Rattle.reading.proofs.heads.rest_unit.Statement.{statement}
 use Rattle.reading.proofs.heads.rest_unit.Tie as tie
 
 returns : tie.Need-returns
-returns c = rw (c .unit-of .ensures, c .before .before .before .before .u8-at .ensures, c .before .before .before .u32-at .ensures, c .before .before .u8-at2 .ensures, c .before .u8-at3 .ensures)
+returns c =
+    let u8-at = c .before .before .before .before .u8-at in
+    let u32-at = c .before .before .before .u32-at in
+    let u8-at2 = c .before .before .u8-at2 in
+    rw (c .unit-of .ensures, u8-at .ensures, u32-at .ensures, u8-at2 .ensures, c .before .u8-at3 .ensures)
 
 pub rest-unit-spec : {M : Type 1} → statement M
 rest-unit-spec =

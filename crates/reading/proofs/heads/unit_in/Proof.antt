@@ -9,10 +9,15 @@ part-requires : tie.Need-part-requires
 part-requires c κs = let a = read-long _ (c .before .pre) in omega (arith, a)
 
 rest-unit-requires : tie.Need-rest-unit-requires
-rest-unit-requires c κs = let a = read-long _ (c .before .before .pre) in rw (c .part .ensures) (omega (arith, part-length (now (c .before .before .args .s)) 96 304 (omega (arith, a))))
+rest-unit-requires c κs =
+    let start = c .before .before in
+    let a = read-long _ (start .pre) in
+    rw (c .part .ensures) (omega (arith, part-length (now (start .args .s)) 96 304 (omega (arith, a))))
 
 returns : tie.Need-returns
-returns c = λ t e. rw (read-head (now (c .before .before .before .args .s)) t e, c .rest-unit .ensures, c .before .part .ensures)
+returns c =
+    let start = c .before .before .before in
+    λ t e. rw (read-head (now (start .args .s)) t e, c .rest-unit .ensures, c .before .part .ensures)
 
 pub unit-in-spec : {M : Type 1} → statement M
 unit-in-spec = tie.close (tie.spec part-requires rest-unit-requires returns)

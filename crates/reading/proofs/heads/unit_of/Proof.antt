@@ -6,13 +6,23 @@ use Rattle.reading.proofs.heads.unit_of.Statement.{statement}
 use Rattle.reading.proofs.heads.unit_of.Tie as tie
 
 unit-in-requires : tie.Need-unit-in-requires
-unit-in-requires c κs = read (c .before .before .before .before .args .at .year) (now (c .before .before .before .before .args .s)) _ (seen _ _ _ _ (c .before .before .check .ensures) (c .enum-told .given .1))
+unit-in-requires c κs =
+    let start = c .before .before .before .before in
+    let check = c .before .before .check in
+    read (start .args .at .year) (now (start .args .s)) _ (seen _ _ _ _ (check .ensures) (c .enum-told .given .1))
 
 returns : tie.Need-returns
-returns c = unit-right (c .before .before .before .before .before .args .at .year) (now (c .before .before .before .before .before .args .s)) _ (seen _ _ _ _ (c .before .before .before .check .ensures) (c .before .enum-told .given .1)) _ (c .unit-in .ensures)
+returns c =
+    let start = c .before .before .before .before .before in
+    let check = c .before .before .before .check in
+    unit-right (start .args .at .year) (now (start .args .s)) _ (seen _ _ _ _ (check .ensures) (c .before .enum-told .given .1)) _
+    (c .unit-in .ensures)
 
 returns-2 : tie.Need-returns-2
-returns-2 c = unit-refused (c .before .before .before .before .before .args .at .year) (now (c .before .before .before .before .before .args .s)) _ _ (c .before .before .before .check .ensures) (c .before .r .given .1)
+returns-2 c =
+    let start = c .before .before .before .before .before in
+    let check = c .before .before .before .check in
+    unit-refused (start .args .at .year) (now (start .args .s)) _ _ (check .ensures) (c .before .r .given .1)
 
 pub unit-of-spec : {M : Type 1} → statement M
 unit-of-spec =

@@ -17,21 +17,38 @@ loop-holds : tie.Need-loop-holds Inv-loop μ-loop
 loop-holds c = (c .before .pre, refl)
 
 add-u32-at : tie.Need-add-u32-at Inv-loop μ-loop
-add-u32-at c = omega (arith, hop-header (c .before .loop .left) (c .before .loop .at) (now (c .before .before .before .args .s)) (omega arith) (c .before .loop .inv .0))
+add-u32-at c =
+    let start = c .before .before .before in
+    let loop = c .before .loop in
+    omega (arith, hop-header (loop .left) (loop .at) (now (start .args .s)) (omega arith) (loop .inv .0))
 
 u32-at-requires : tie.Need-u32-at-requires Inv-loop μ-loop
-u32-at-requires c κs = omega (arith, hop-header (c .before .loop .left) (c .before .loop .at) (now (c .before .before .before .args .s)) (omega arith) (c .before .loop .inv .0))
+u32-at-requires c κs =
+    let start = c .before .before .before in
+    let loop = c .before .loop in
+    omega (arith, hop-header (loop .left) (loop .at) (now (start .args .s)) (omega arith) (loop .inv .0))
 
 add-at : tie.Need-add-at Inv-loop μ-loop
-add-at c = omega (arith, hop-turn (c .before .before .loop .left) (c .before .before .loop .at) (now (c .before .before .before .before .args .s)) (c .u32-at .result) (omega arith) (c .before .before .loop .inv .0) (c .u32-at .ensures) .within)
+add-at c =
+    let start = c .before .before .before .before in
+    let loop = c .before .before .loop in
+    omega (
+      arith,
+      hop-turn (loop .left) (loop .at) (now (start .args .s)) (c .u32-at .result) (omega arith) (loop .inv .0) (c .u32-at .ensures) .within,
+    )
 
 loop-again : tie.Need-loop-again Inv-loop μ-loop
 loop-again c =
-    let h = hop-turn (c .before .before .loop .left) (c .before .before .loop .at) (now (c .before .before .before .before .args .s)) (c .u32-at .result) (omega arith) (c .before .before .loop .inv .0) (c .u32-at .ensures) in
-    (h .hops, h .place ∙ c .before .before .loop .inv .1)
+    let start = c .before .before .before .before in
+    let loop = c .before .before .loop in
+    let h = hop-turn (loop .left) (loop .at) (now (start .args .s)) (c .u32-at .result) (omega arith) (loop .inv .0) (c .u32-at .ensures) in
+    (h .hops, h .place ∙ loop .inv .1)
 
 returns : tie.Need-returns Inv-loop μ-loop
-returns c = sym (hop-done (c .before .loop .left) (c .before .loop .at) (now (c .before .before .before .args .s)) (omega arith)) ∙ c .before .loop .inv .1
+returns c =
+    let start = c .before .before .before in
+    let loop = c .before .loop in
+    sym (hop-done (loop .left) (loop .at) (now (start .args .s)) (omega arith)) ∙ loop .inv .1
 
 pub place-of-spec : {M : Type 1} → statement M
 place-of-spec =

@@ -6,13 +6,26 @@ use Rattle.reading.proofs.records.record_at.Statement.{statement}
 use Rattle.reading.proofs.records.record_at.Tie as tie
 
 record-in-requires : tie.Need-record-in-requires
-record-in-requires c κs = accepted-at (c .before .before .before .before .before .before .before .args .at .year) (now (c .before .before .before .before .before .before .before .args .s)) _ (seen _ _ _ _ (c .before .before .before .before .before .check .ensures) (c .before .before .before .sizes .given .1)) _ (c .before .year .ensures)
+record-in-requires c κs =
+    let start = c .before .before .before .before .before .before .before in
+    let check = c .before .before .before .before .before .check in
+    let sizes = c .before .before .before .sizes in
+    accepted-at (start .args .at .year) (now (start .args .s)) _ (seen _ _ _ _ (check .ensures) (sizes .given .1)) _ (c .before .year .ensures)
 
 returns : tie.Need-returns
-returns c = found-right (c .before .before .before .before .before .before .before .before .args .at .year) (now (c .before .before .before .before .before .before .before .before .args .s)) _ (seen _ _ _ _ (c .before .before .before .before .before .before .check .ensures) (c .before .before .before .before .sizes .given .1)) _ _ _ (c .before .before .year .ensures) (c .record-in .ensures)
+returns c =
+    let start = c .before .before .before .before .before .before .before .before in
+    let check = c .before .before .before .before .before .before .check in
+    let sizes = c .before .before .before .before .sizes in
+    let year = c .before .before .year in
+    found-right (start .args .at .year) (now (start .args .s)) _ (seen _ _ _ _ (check .ensures) (sizes .given .1)) _ _ _ (year .ensures)
+    (c .record-in .ensures)
 
 returns-2 : tie.Need-returns-2
-returns-2 c = found-refused (c .before .before .before .before .before .args .at .year) (now (c .before .before .before .before .before .args .s)) _ _ (c .before .before .before .check .ensures) (c .before .r .given .1) (c .before .before .before .before .before .args .number)
+returns-2 c =
+    let start = c .before .before .before .before .before in
+    let check = c .before .before .before .check in
+    found-refused (start .args .at .year) (now (start .args .s)) _ _ (check .ensures) (c .before .r .given .1) (start .args .number)
 
 pub record-at-spec : {M : Type 1} → statement M
 record-at-spec =

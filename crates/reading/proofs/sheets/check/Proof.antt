@@ -5,10 +5,20 @@ use Rattle.reading.proofs.sheets.check.Statement.{statement}
 use Rattle.reading.proofs.sheets.check.Tie as tie
 
 returns : tie.Need-returns
-returns c = at-known (c .before .before .before .before .before .before .before .before .args .at .year) _ _ (now (c .before .before .before .before .before .before .before .before .args .s)) _ _ _ (c .before .before .before .before .before .before .year .ensures) (c .before .before .before .before .before .new .ensures .0) (c .before .before .before .known .given .1) (c .before .year2 .ensures) (c .check-sheet .ensures)
+returns c =
+    let start = c .before .before .before .before .before .before .before .before in
+    let year = c .before .before .before .before .before .before .year in
+    let new = c .before .before .before .before .before .new in
+    let known = c .before .before .before .known in
+    at-known (start .args .at .year) _ _ (now (start .args .s)) _ _ _ (year .ensures) (new .ensures .0) (known .given .1)
+    (c .before .year2 .ensures) (c .check-sheet .ensures)
 
 returns-2 : tie.Need-returns-2
-returns-2 c = at-unknown (c .before .before .before .before .before .before .args .at .year) _ _ (now (c .before .before .before .before .before .before .args .s)) _ (c .before .before .before .before .year .ensures) (c .before .before .before .new .ensures .0) (c .before .r .given .1)
+returns-2 c =
+    let start = c .before .before .before .before .before .before in
+    let year = c .before .before .before .before .year in
+    let new = c .before .before .before .new in
+    at-unknown (start .args .at .year) _ _ (now (start .args .s)) _ (year .ensures) (new .ensures .0) (c .before .r .given .1)
 
 pub check-spec : {M : Type 1} → statement M
 check-spec =

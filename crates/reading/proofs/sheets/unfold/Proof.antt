@@ -7,22 +7,66 @@ use Rattle.reading.proofs.sheets.unfold.Statement.{statement}
 use Rattle.reading.proofs.sheets.unfold.Tie as tie
 
 returns : tie.Need-returns
-returns c = short-1 (c .before .before .before .before .before .before .before .before .before .before .args .at .year) (now (c .before .before .before .before .before .before .before .before .before .before .args .s)) (now (c .before .before .before .before .before .before .before .before .before .before .args .table)) (now (c .before .before .before .before .before .before .before .before .before .before .args .elements)) (now (c .before .before .before .before .before .before .before .before .before .before .args .bytes)) _ (seen _ _ _ _ (c .before .before .before .before .before .check .ensures) (c .before .before .before .sizes .given .1)) (omega (arith, c .if1 .taken))
+returns c =
+    let start = c .before .before .before .before .before .before .before .before .before .before in
+    let check = c .before .before .before .before .before .check in
+    let sizes = c .before .before .before .sizes in
+    short-1 (start .args .at .year) (now (start .args .s)) (now (start .args .table)) (now (start .args .elements)) (now (start .args .bytes)) _
+    (seen _ _ _ _ (check .ensures) (sizes .given .1)) (omega (arith, c .if1 .taken))
 
 returns-2 : tie.Need-returns-2
-returns-2 c = short-2 (c .before .before .before .before .before .before .before .before .before .before .before .before .args .at .year) (now (c .before .before .before .before .before .before .before .before .before .before .before .before .args .s)) (now (c .before .before .before .before .before .before .before .before .before .before .before .before .args .table)) (now (c .before .before .before .before .before .before .before .before .before .before .before .before .args .elements)) (now (c .before .before .before .before .before .before .before .before .before .before .before .before .args .bytes)) _ (seen _ _ _ _ (c .before .before .before .before .before .before .before .check .ensures) (c .before .before .before .before .before .sizes .given .1)) (omega (arith, c .before .before .if1 .left)) (omega (arith, c .if2 .taken))
+returns-2 c =
+    let start = c .before .before .before .before .before .before .before .before .before .before .before .before in
+    let check = c .before .before .before .before .before .before .before .check in
+    let sizes = c .before .before .before .before .before .sizes in
+    let if1 = c .before .before .if1 in
+    short-2 (start .args .at .year) (now (start .args .s)) (now (start .args .table)) (now (start .args .elements)) (now (start .args .bytes)) _
+    (seen _ _ _ _ (check .ensures) (sizes .given .1)) (omega (arith, if1 .left)) (omega (arith, c .if2 .taken))
 
 returns-3 : tie.Need-returns-3
-returns-3 c = short-3 (c .before .before .before .before .before .before .before .before .before .before .before .before .before .before .args .at .year) (now (c .before .before .before .before .before .before .before .before .before .before .before .before .before .before .args .s)) (now (c .before .before .before .before .before .before .before .before .before .before .before .before .before .before .args .table)) (now (c .before .before .before .before .before .before .before .before .before .before .before .before .before .before .args .elements)) (now (c .before .before .before .before .before .before .before .before .before .before .before .before .before .before .args .bytes)) _ (seen _ _ _ _ (c .before .before .before .before .before .before .before .before .before .check .ensures) (c .before .before .before .before .before .before .before .sizes .given .1)) (omega (arith, c .before .before .before .before .if1 .left)) (omega (arith, c .before .before .if2 .left)) (omega (arith, c .if3 .taken))
+returns-3 c =
+    let start = c .before .before .before .before .before .before .before .before .before .before .before .before .before .before in
+    let check = c .before .before .before .before .before .before .before .before .before .check in
+    let sizes = c .before .before .before .before .before .before .before .sizes in
+    let if1 = c .before .before .before .before .if1 in
+    let if2 = c .before .before .if2 in
+    short-3 (start .args .at .year) (now (start .args .s)) (now (start .args .table)) (now (start .args .elements)) (now (start .args .bytes)) _
+    (seen _ _ _ _ (check .ensures) (sizes .given .1)) (omega (arith, if1 .left)) (omega (arith, if2 .left)) (omega (arith, c .if3 .taken))
 
 fill-sheet-requires : tie.Need-fill-sheet-requires
-fill-sheet-requires c κs = fits (c .before .before .before .before .before .before .before .before .before .before .before .before .before .before .before .before .before .args .at .year) (now (c .before .before .before .before .before .before .before .before .before .before .before .before .before .before .before .before .before .args .s)) (now (c .before .before .before .before .before .before .before .before .before .before .before .before .before .before .before .before .before .args .table)) (now (c .before .before .before .before .before .before .before .before .before .before .before .before .before .before .before .before .before .args .elements)) (now (c .before .before .before .before .before .before .before .before .before .before .before .before .before .before .before .before .before .args .bytes)) _ (seen _ _ _ _ (c .before .before .before .before .before .before .before .before .before .before .before .before .check .ensures) (c .before .before .before .before .before .before .before .before .before .before .sizes .given .1)) (omega (arith, c .before .before .before .before .before .before .before .if1 .left)) (omega (arith, c .before .before .before .before .before .if2 .left)) (omega (arith, c .before .before .before .if3 .left))
+fill-sheet-requires c κs =
+    let start = c .before .before .before .before .before .before .before .before .before .before .before .before .before .before .before
+    .before .before in
+    let check = c .before .before .before .before .before .before .before .before .before .before .before .before .check in
+    let sizes = c .before .before .before .before .before .before .before .before .before .before .sizes in
+    let if1 = c .before .before .before .before .before .before .before .if1 in
+    let if2 = c .before .before .before .before .before .if2 in
+    let if3 = c .before .before .before .if3 in
+    fits (start .args .at .year) (now (start .args .s)) (now (start .args .table)) (now (start .args .elements)) (now (start .args .bytes)) _
+    (seen _ _ _ _ (check .ensures) (sizes .given .1)) (omega (arith, if1 .left)) (omega (arith, if2 .left)) (omega (arith, if3 .left))
 
 returns-4 : tie.Need-returns-4
-returns-4 c = filled-right (c .before .before .before .before .before .before .before .before .before .before .before .before .before .before .before .before .before .before .before .before .before .before .before .before .args .at .year) (now (c .before .before .before .before .before .before .before .before .before .before .before .before .before .before .before .before .before .before .before .before .before .before .before .before .args .s)) (now (c .before .before .before .before .before .before .before .before .before .before .before .before .before .before .before .before .before .before .before .before .before .before .before .before .args .table)) (now (c .before .before .before .before .before .before .before .before .before .before .before .before .before .before .before .before .before .before .before .before .before .before .before .before .args .elements)) (now (c .before .before .before .before .before .before .before .before .before .before .before .before .before .before .before .before .before .before .before .before .before .before .before .before .args .bytes)) _ (seen _ _ _ _ (c .before .before .before .before .before .before .before .before .before .before .before .before .before .before .before .before .before .before .before .check .ensures) (c .before .before .before .before .before .before .before .before .before .before .before .before .before .before .before .before .before .sizes .given .1)) (omega (arith, c .before .before .before .before .before .before .before .before .before .before .before .before .before .before .if1 .left)) (omega (arith, c .before .before .before .before .before .before .before .before .before .before .before .before .if2 .left)) (omega (arith, c .before .before .before .before .before .before .before .before .before .before .if3 .left)) _ _ _ (c .before .before .before .before .before .before .fill-sheet .ensures)
+returns-4 c =
+    let start = c .before .before .before .before .before .before .before .before .before .before .before .before .before .before .before
+    .before .before .before .before .before .before .before .before .before in
+    let check = c .before .before .before .before .before .before .before .before .before .before .before .before .before .before .before
+    .before .before .before .before .check in
+    let sizes = c .before .before .before .before .before .before .before .before .before .before .before .before .before .before .before
+    .before .before .sizes in
+    let if1 = c .before .before .before .before .before .before .before .before .before .before .before .before .before .before .if1 in
+    let if2 = c .before .before .before .before .before .before .before .before .before .before .before .before .if2 in
+    let if3 = c .before .before .before .before .before .before .before .before .before .before .if3 in
+    let fill-sheet = c .before .before .before .before .before .before .fill-sheet in
+    filled-right (start .args .at .year) (now (start .args .s)) (now (start .args .table)) (now (start .args .elements))
+    (now (start .args .bytes)) _ (seen _ _ _ _ (check .ensures) (sizes .given .1)) (omega (arith, if1 .left)) (omega (arith, if2 .left))
+    (omega (arith, if3 .left)) _ _ _ (fill-sheet .ensures)
 
 returns-5 : tie.Need-returns-5
-returns-5 c = refused-right (c .before .before .before .before .before .before .before .before .args .at .year) (now (c .before .before .before .before .before .before .before .before .args .s)) (now (c .before .before .before .before .before .before .before .before .args .table)) (now (c .before .before .before .before .before .before .before .before .args .elements)) (now (c .before .before .before .before .before .before .before .before .args .bytes)) _ _ (c .before .before .before .check .ensures) (c .before .r .given .1)
+returns-5 c =
+    let start = c .before .before .before .before .before .before .before .before in
+    let check = c .before .before .before .check in
+    refused-right (start .args .at .year) (now (start .args .s)) (now (start .args .table)) (now (start .args .elements))
+    (now (start .args .bytes)) _ _ (check .ensures) (c .before .r .given .1)
 
 pub unfold-spec : {M : Type 1} → statement M
 unfold-spec =
