@@ -17,7 +17,10 @@ loop-holds : tie.Need-loop-holds Inv-loop μ-loop
 loop-holds c = store-start _ _ _ _ _ _
 
 loop-again : tie.Need-loop-again Inv-loop μ-loop
-loop-again c = store-one _ _ _ _ _ _ _ _ _ _ (c .before .before .before .before .before .before .loop .inv) (omega arith) (omega arith) refl (c .before .before .put-u64 .ensures)
+loop-again c =
+    let loop = c .before .before .before .before .before .before .loop in
+    let put-u64 = c .before .before .put-u64 in
+    store-one _ _ _ _ _ _ _ _ _ _ (loop .inv) (omega arith) (omega arith) refl (put-u64 .ensures)
 
 returns : tie.Need-returns Inv-loop μ-loop
 returns c = store-done _ _ _ _ _ _ _ _ (c .before .loop .inv) (omega arith)

@@ -16,7 +16,17 @@ loop-holds : tie.Need-loop-holds Inv-loop μ-loop
 loop-holds c = store-start _ _ _ _ _ _
 
 loop-again : tie.Need-loop-again Inv-loop μ-loop
-loop-again c = store-turn _ _ _ _ _ _ _ _ _ (c .before .before .before .before .before .before .before .before .before .before .before .before .before .before .before .before .loop .inv) (omega arith) (omega arith) (store-three 2 2 4 (c .before .before .before .before .before .before .before .before .before .before .before .before .before .before .before .before .before .before .before .args .xs .now) (c .before .before .before .before .before .before .before .before .before .before .before .before .before .before .before .before .before .before .before .args .w + 8 * c .before .before .before .before .before .before .before .before .before .before .before .before .before .before .before .before .loop .i) (c .before .before .before .before .before .before .before .before .before .before .before .before .before .before .before .before .before .before .before .args .at + 3 * c .before .before .before .before .before .before .before .before .before .before .before .before .before .before .before .before .loop .i) (c .before .before .before .before .before .before .before .before .before .before .before .before .before .before .before .before .loop .out) _ _ _ (omega arith) (c .before .before .before .before .before .before .before .before .before .before .before .before .put-u16 .ensures) (c .before .before .before .before .before .before .before .put-u162 .ensures) (c .before .before .put-u32 .ensures))
+loop-again c =
+    let start = c .before .before .before .before .before .before .before .before .before .before .before .before .before .before .before
+    .before .before .before .before in
+    let loop = c .before .before .before .before .before .before .before .before .before .before .before .before .before .before .before .before
+    .loop in
+    let put-u16 = c .before .before .before .before .before .before .before .before .before .before .before .before .put-u16 in
+    let put-u162 = c .before .before .before .before .before .before .before .put-u162 in
+    let put-u32 = c .before .before .put-u32 in
+    store-turn _ _ _ _ _ _ _ _ _ (loop .inv) (omega arith) (omega arith)
+    (store-three 2 2 4 (start .args .xs .now) (start .args .w + 8 * loop .i) (start .args .at + 3 * loop .i) (loop .out) _ _ _ (omega arith)
+    (put-u16 .ensures) (put-u162 .ensures) (put-u32 .ensures))
 
 returns : tie.Need-returns Inv-loop μ-loop
 returns c = store-done _ _ _ _ _ _ _ _ (c .before .loop .inv) (omega arith)

@@ -4,7 +4,11 @@ use Rattle.storing.proofs.numbers.put_u32.Statement.{statement}
 use Rattle.storing.proofs.numbers.put_u32.Tie as tie
 
 returns : tie.Need-returns
-returns c = rw (c .before .before .put-u162 .ensures, c .before .before .before .before .before .before .put-u16 .ensures) (put-parts 2 2 (c .before .before .before .before .before .before .before .before .before .args .out .now) (c .before .before .before .before .before .before .before .before .before .args .w) (c .before .before .before .before .before .before .before .before .before .args .x))
+returns c =
+    let start = c .before .before .before .before .before .before .before .before .before in
+    let put-u16 = c .before .before .before .before .before .before .put-u16 in
+    let put-u162 = c .before .before .put-u162 in
+    rw (put-u162 .ensures, put-u16 .ensures) (put-parts 2 2 (start .args .out .now) (start .args .w) (start .args .x))
 
 pub put-u32-spec : {M : Type 1} → statement M
 put-u32-spec =

@@ -4,7 +4,11 @@ use Rattle.storing.proofs.texts.put_text.Statement.{statement}
 use Rattle.storing.proofs.texts.put_text.Tie as tie
 
 returns : tie.Need-returns
-returns c = rw (c .before .before .put-zeros .ensures, c .before .before .before .before .before .before .put-bytes .ensures) (text-zeros (c .before .before .before .before .before .before .before .before .before .before .args .out .now) (c .before .before .before .before .before .before .before .before .before .before .args .text .now) (c .before .before .before .before .before .before .before .before .before .before .args .w) (c .before .before .before .before .before .before .before .before .before .before .args .width))
+returns c =
+    let start = c .before .before .before .before .before .before .before .before .before .before in
+    let put-bytes = c .before .before .before .before .before .before .put-bytes in
+    let put-zeros = c .before .before .put-zeros in
+    rw (put-zeros .ensures, put-bytes .ensures) (text-zeros (start .args .out .now) (start .args .text .now) (start .args .w) (start .args .width))
 
 pub put-text-spec : {M : Type 1} → statement M
 put-text-spec =
