@@ -18,13 +18,23 @@ loop-holds : tie.Need-loop-holds Inv-loop μ-loop
 loop-holds c = (omega arith, λ w e. refl)
 
 returns : tie.Need-returns Inv-loop μ-loop
-returns c = λ w e. sym (c .before .before .before .loop .inv .1 w e ∙ fit-wide w (now (c .before .before .before .before .args .elements)) (c .before .before .before .loop .i) (omega arith) (c .before .before .before .loop .left) (omega arith) (omega (arith, e)))
+returns c =
+    let start = c .before .before .before .before in
+    let loop = c .before .before .before .loop in
+    λ w e. sym (loop .inv .1 w e ∙ fit-wide w (now (start .args .elements)) (loop .i) (omega arith) (loop .left) (omega arith) (omega (arith, e)))
 
 loop-again : tie.Need-loop-again Inv-loop μ-loop
-loop-again c = (omega arith, λ w e. c .before .before .before .loop .inv .1 w e ∙ fit-next w (now (c .before .before .before .before .args .elements)) (c .before .before .before .loop .i) (omega arith) (c .before .before .before .loop .left) (omega arith) (omega (arith, e)))
+loop-again c =
+    let start = c .before .before .before .before in
+    let loop = c .before .before .before .loop in (
+      omega arith,
+      λ w e. loop .inv .1 w e ∙ fit-next w (now (start .args .elements)) (loop .i) (omega arith) (loop .left) (omega arith) (omega (arith, e)),
+    )
 
 returns-2 : tie.Need-returns-2 Inv-loop μ-loop
-returns-2 c = λ w e. sym (c .before .loop .inv .1 w e ∙ fit-done w (c .before .loop .left) _ (omega arith))
+returns-2 c =
+    let loop = c .before .loop in
+    λ w e. sym (loop .inv .1 w e ∙ fit-done w (loop .left) _ (omega arith))
 
 pub fit-all-spec : {M : Type 1} → statement M
 fit-all-spec =

@@ -19,19 +19,38 @@ loop-holds : tie.Need-loop-holds Inv-loop μ-loop
 loop-holds c = (omega arith, refl)
 
 returns : tie.Need-returns Inv-loop μ-loop
-returns c = sym (c .before .before .before .loop .inv .1 ∙ wide-x (now (c .before .before .before .before .args .elements)) (c .before .before .before .loop .i) (omega arith) (c .before .before .before .loop .left) (omega arith) (omega arith))
+returns c =
+    let start = c .before .before .before .before in
+    let loop = c .before .before .before .loop in
+    sym (loop .inv .1 ∙ wide-x (now (start .args .elements)) (loop .i) (omega arith) (loop .left) (omega arith) (omega arith))
 
 returns-2 : tie.Need-returns-2 Inv-loop μ-loop
-returns-2 c = sym (c .before .before .before .before .before .loop .inv .1 ∙ wide-y (now (c .before .before .before .before .before .before .args .elements)) (c .before .before .before .before .before .loop .i) (omega arith) (c .before .before .before .before .before .loop .left) (omega arith) (omega arith) (omega arith))
+returns-2 c =
+    let start = c .before .before .before .before .before .before in
+    let loop = c .before .before .before .before .before .loop in
+    sym (loop .inv .1 ∙ wide-y (now (start .args .elements)) (loop .i) (omega arith) (loop .left) (omega arith) (omega arith) (omega arith))
 
 returns-3 : tie.Need-returns-3 Inv-loop μ-loop
-returns-3 c = sym (c .before .before .before .before .before .before .before .loop .inv .1 ∙ wide-height (now (c .before .before .before .before .before .before .before .before .args .elements)) (c .before .before .before .before .before .before .before .loop .i) (omega arith) (c .before .before .before .before .before .before .before .loop .left) (omega arith) (omega arith) (omega arith) (omega arith))
+returns-3 c =
+    let start = c .before .before .before .before .before .before .before .before in
+    let loop = c .before .before .before .before .before .before .before .loop in
+    sym
+    (loop .inv .1 ∙ wide-height (now (start .args .elements)) (loop .i) (omega arith) (loop .left) (omega arith) (omega arith) (omega arith)
+    (omega arith))
 
 loop-again : tie.Need-loop-again Inv-loop μ-loop
-loop-again c = (omega arith, c .before .before .before .before .before .before .before .loop .inv .1 ∙ point-next (now (c .before .before .before .before .before .before .before .before .args .elements)) (c .before .before .before .before .before .before .before .loop .i) (omega arith) (c .before .before .before .before .before .before .before .loop .left) (omega arith) (omega arith) (omega arith) (omega arith))
+loop-again c =
+    let start = c .before .before .before .before .before .before .before .before in
+    let loop = c .before .before .before .before .before .before .before .loop in (
+      omega arith,
+      loop .inv .1 ∙ point-next (now (start .args .elements)) (loop .i) (omega arith) (loop .left) (omega arith) (omega arith) (omega arith)
+          (omega arith),
+    )
 
 returns-4 : tie.Need-returns-4 Inv-loop μ-loop
-returns-4 c = sym (c .before .loop .inv .1 ∙ points-done (c .before .loop .left) _ (omega arith))
+returns-4 c =
+    let loop = c .before .loop in
+    sym (loop .inv .1 ∙ points-done (loop .left) _ (omega arith))
 
 pub fit-points-spec : {M : Type 1} → statement M
 fit-points-spec =

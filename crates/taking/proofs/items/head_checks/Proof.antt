@@ -6,7 +6,15 @@ use Rattle.taking.proofs.items.head_checks.Statement.{statement}
 use Rattle.taking.proofs.items.head_checks.Tie as tie
 
 returns : tie.Need-returns
-returns c = as-checks (ap (λ k. headRules (c .before .before .before .before .before .before .before .before .before .before .args .a) k) (c .before .before .before .before .before .before .before .before .before .shape-of .ensures)) (c .before .before .before .before .before .before .before .demand .ensures _ ▸ c .before .before .before .before .before .demand2 .ensures _ ▸ c .before .before .before .before .demand3 .ensures _ ▸ c .before .before .before .feature .ensures ▸ c .before .demand4 .ensures _ ▸ c .demand5 .ensures _)
+returns c =
+    let start = c .before .before .before .before .before .before .before .before .before .before in
+    let shape-of = c .before .before .before .before .before .before .before .before .before .shape-of in
+    let demand = c .before .before .before .before .before .before .before .demand in
+    let demand2 = c .before .before .before .before .before .demand2 in
+    let demand3 = c .before .before .before .before .demand3 in
+    let feature = c .before .before .before .feature in
+    as-checks (ap (λ k. headRules (start .args .a) k) (shape-of .ensures))
+    (demand .ensures _ ▸ demand2 .ensures _ ▸ demand3 .ensures _ ▸ feature .ensures ▸ c .before .demand4 .ensures _ ▸ c .demand5 .ensures _)
 
 pub head-checks-spec : {M : Type 1} → statement M
 head-checks-spec =

@@ -8,13 +8,25 @@ use Rattle.taking.proofs.items.item_checks.Statement.{statement}
 use Rattle.taking.proofs.items.item_checks.Tie as tie
 
 value-of-requires : tie.Need-value-of-requires
-value-of-requires c κs = ltb-true _ _ (step-holds _ _ _ (c .before .before .head-checks .result) (c .before .before .head-checks .ensures) (c .enum-told .given .1) .1 .1 .1 .0)
+value-of-requires c κs =
+    let head-checks = c .before .before .head-checks in
+    ltb-true _ _ (step-holds _ _ _ (head-checks .result) (head-checks .ensures) (c .enum-told .given .1) .1 .1 .1 .0)
 
 returns : tie.Need-returns
-returns c = as-checks (item-rules (c .before .before .before .before .before .before .args .a) (drop (c .before .before .before .before .before .before .args .at) (now (c .before .before .before .before .before .before .args .bytes)))) (then-on _ _ _ (c .before .before .before .before .head-checks .result) (c .before .before .before .before .head-checks .ensures) (c .before .before .enum-told .given .1) _ _ (c .value-checks .ensures _))
+returns c =
+    let start = c .before .before .before .before .before .before in
+    let head-checks = c .before .before .before .before .head-checks in
+    let enum-told = c .before .before .enum-told in
+    as-checks (item-rules (start .args .a) (drop (start .args .at) (now (start .args .bytes))))
+    (then-on _ _ _ (head-checks .result) (head-checks .ensures) (enum-told .given .1) _ _ (c .value-checks .ensures _))
 
 returns-2 : tie.Need-returns-2
-returns-2 c = as-checks (item-rules (c .before .before .before .before .before .args .a) (drop (c .before .before .before .before .before .args .at) (now (c .before .before .before .before .before .args .bytes)))) (then-stop _ _ _ (c .before .before .before .head-checks .result) (c .before .before .before .head-checks .ensures) _ (c .before .r .given .1) (valueRules (c .before .before .before .before .before .args .a) (drop (c .before .before .before .before .before .args .at) (now (c .before .before .before .before .before .args .bytes)))))
+returns-2 c =
+    let start = c .before .before .before .before .before in
+    let head-checks = c .before .before .before .head-checks in
+    as-checks (item-rules (start .args .a) (drop (start .args .at) (now (start .args .bytes))))
+    (then-stop _ _ _ (head-checks .result) (head-checks .ensures) _ (c .before .r .given .1)
+    (valueRules (start .args .a) (drop (start .args .at) (now (start .args .bytes)))))
 
 pub item-checks-spec : {M : Type 1} → statement M
 item-checks-spec =

@@ -10,14 +10,19 @@ use Rattle.taking.proofs.items.size_checks.Statement.{statement}
 use Rattle.taking.proofs.items.size_checks.Tie as tie
 
 returns : tie.Need-returns
-returns c = λ y.
-    let a = c .before .before .before .before .before .before .args .a in
-    let k = c .before .before .before .before .before .before .args .k in
-    as-checks (sizes-are a k (c .before .before .before .before .before .before .args .left) (c .before .before .before .before .before .before .pre .1))
-    (link (must (ltb (a .size) 4294967296) TABLE 3) (c .before .before .before .before .before .demand .result) (c .before .before .before .before .before .demand .ensures y)
-    ▸ link (must (eqb (a .size) (k .size)) TABLE 3) (c .before .before .before .demand2 .result) (c .before .before .before .demand2 .ensures y)
-    ▸ link (must (not (k .long) || (eqb (a .size % 2) 0 && leb 2 (a .size))) SEMANTIC 3) (c .before .demand3 .result) (c .before .demand3 .ensures y)
-    ▸ link (must (leb (a .size) (c .before .before .before .before .before .before .args .left)) TABLE 3) (c .demand4 .result) (c .demand4 .ensures y))
+returns c =
+    let start = c .before .before .before .before .before .before in
+    let demand = c .before .before .before .before .before .demand in
+    let demand2 = c .before .before .before .demand2 in
+    let demand3 = c .before .demand3 in
+    λ y.
+    let a = start .args .a in
+    let k = start .args .k in
+    as-checks (sizes-are a k (start .args .left) (start .pre .1))
+    (link (must (ltb (a .size) 4294967296) TABLE 3) (demand .result) (demand .ensures y)
+    ▸ link (must (eqb (a .size) (k .size)) TABLE 3) (demand2 .result) (demand2 .ensures y)
+    ▸ link (must (not (k .long) || (eqb (a .size % 2) 0 && leb 2 (a .size))) SEMANTIC 3) (demand3 .result) (demand3 .ensures y)
+    ▸ link (must (leb (a .size) (start .args .left)) TABLE 3) (c .demand4 .result) (c .demand4 .ensures y))
 
 pub size-checks-spec : {M : Type 1} → statement M
 size-checks-spec =

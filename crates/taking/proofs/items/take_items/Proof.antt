@@ -22,23 +22,45 @@ abbrev μ-loop : tie.MeasureT-loop
 μ-loop table bytes n year left₀ at₀ left at = left
 
 loop-holds : tie.Need-loop-holds Inv-loop μ-loop
-loop-holds c = (c .before .before .pre .0, c .before .before .pre .1, λ es. same-start _ _ _ _ _ _ _ _)
+loop-holds c =
+    let start = c .before .before in
+    (start .pre .0, start .pre .1, λ es. same-start _ _ _ _ _ _ _ _)
 
 take-item-requires : tie.Need-take-item-requires Inv-loop μ-loop
 take-item-requires c κs = let h = c .before .loop .inv .0 in omega (arith, h)
 
 returns : tie.Need-returns Inv-loop μ-loop
-returns c = λ es. same-stop _ _ _ _ _ _ _ _ _ _ (c .before .before .before .before .before .loop .inv .2 es) (omega arith) _ (item-stopped _ (now (c .before .before .before .before .before .before .before .before .args .table)) es (now (c .before .before .before .before .before .before .before .before .args .bytes)) _ (c .before .before .before .before .before .loop .inv .0) (omega arith) (c .before .before .before .take-item .result) (c .before .before .before .take-item .ensures) _ (c .before .r .given .1))
+returns c =
+    let start = c .before .before .before .before .before .before .before .before in
+    let loop = c .before .before .before .before .before .loop in
+    let take-item = c .before .before .before .take-item in
+    λ es. same-stop _ _ _ _ _ _ _ _ _ _ (loop .inv .2 es) (omega arith) _
+    (item-stopped _ (now (start .args .table)) es (now (start .args .bytes)) _ (loop .inv .0) (omega arith) (take-item .result)
+    (take-item .ensures) _ (c .before .r .given .1))
 
 loop-again : tie.Need-loop-again Inv-loop μ-loop
 loop-again c =
-    let h = c .before .before .before .before .before .loop .inv .0 in
-    let w = item-went _ (now (c .before .before .before .before .before .before .before .before .args .table)) [] (now (c .before .before .before .before .before .before .before .before .args .bytes)) _ h (omega arith) (c .before .before .before .take-item .result) (c .before .before .before .take-item .ensures) _ (c .before .q .given .1) in
-    let n = item-next _ (now (c .before .before .before .before .before .before .before .before .args .table)) [] (now (c .before .before .before .before .before .before .before .before .args .bytes)) _ h (omega arith) (c .before .before .before .take-item .result) (c .before .before .before .take-item .ensures) _ (c .before .q .given .1) in
-    (w .at, omega (arith, n), λ es. same-turn _ _ _ _ _ _ _ _ _ _ _ _ item-numbers (c .before .before .before .before .before .loop .inv .2 es) (omega arith) (item-went _ (now (c .before .before .before .before .before .before .before .before .args .table)) es (now (c .before .before .before .before .before .before .before .before .args .bytes)) _ h (omega arith) (c .before .before .before .take-item .result) (c .before .before .before .take-item .ensures) _ (c .before .q .given .1)))
+    let start = c .before .before .before .before .before .before .before .before in
+    let loop = c .before .before .before .before .before .loop in
+    let take-item = c .before .before .before .take-item in
+    let q = c .before .q in
+    let h = loop .inv .0 in
+    let w = item-went _ (now (start .args .table)) [] (now (start .args .bytes)) _ h (omega arith) (take-item .result) (take-item .ensures) _
+    (q .given .1) in
+    let n = item-next _ (now (start .args .table)) [] (now (start .args .bytes)) _ h (omega arith) (take-item .result) (take-item .ensures) _
+    (q .given .1) in (
+      w .at,
+      omega (arith, n),
+      λ es. same-turn _ _ _ _ _ _ _ _ _ _ _ _ item-numbers (loop .inv .2 es) (omega arith)
+          (item-went _ (now (start .args .table)) es (now (start .args .bytes)) _ h (omega arith) (take-item .result) (take-item .ensures) _
+          (q .given .1)),
+    )
 
 returns-2 : tie.Need-returns-2 Inv-loop μ-loop
-returns-2 c = let h = c .before .loop .inv .0 in λ es. same-done _ _ _ _ _ _ _ _ _ _ (c .before .loop .inv .2 es) (omega arith) (h .length)
+returns-2 c =
+    let loop = c .before .loop in
+    let h = loop .inv .0 in
+    λ es. same-done _ _ _ _ _ _ _ _ _ _ (loop .inv .2 es) (omega arith) (h .length)
 
 pub take-items-spec : {M : Type 1} → statement M
 take-items-spec =

@@ -9,19 +9,45 @@ use Rattle.taking.proofs.items.value_checks.Statement.{statement}
 use Rattle.taking.proofs.items.value_checks.Tie as tie
 
 add-end : tie.Need-add-end
-add-end c = let z = value-sized (c .before .before .before .before .args .a) (length (now (c .before .before .before .before .args .bytes)) - c .before .before .before .before .args .at) _ (c .before .before .size-checks .result) (c .before .before .size-checks .ensures) (c .enum-told .given .1) in omega (arith, z)
+add-end c =
+    let start = c .before .before .before .before in
+    let size-checks = c .before .before .size-checks in
+    let z = value-sized (start .args .a) (length (now (start .args .bytes)) - start .args .at) _ (size-checks .result) (size-checks .ensures)
+    (c .enum-told .given .1) in
+    omega (arith, z)
 
 sub-end : tie.Need-sub-end
-sub-end c = let z = value-sized (c .before .before .before .before .args .a) (length (now (c .before .before .before .before .args .bytes)) - c .before .before .before .before .args .at) _ (c .before .before .size-checks .result) (c .before .before .size-checks .ensures) (c .enum-told .given .1) in omega (arith, z, ap (λ v. v .closing) (c .before .before .before .before .pre .2))
+sub-end c =
+    let start = c .before .before .before .before in
+    let size-checks = c .before .before .size-checks in
+    let z = value-sized (start .args .a) (length (now (start .args .bytes)) - start .args .at) _ (size-checks .result) (size-checks .ensures)
+    (c .enum-told .given .1) in
+    omega (arith, z, ap (λ v. v .closing) (start .pre .2))
 
 part-requires : tie.Need-part-requires
-part-requires c κs = let z = value-sized (c .before .before .before .before .args .a) (length (now (c .before .before .before .before .args .bytes)) - c .before .before .before .before .args .at) _ (c .before .before .size-checks .result) (c .before .before .size-checks .ensures) (c .enum-told .given .1) in omega (arith, z, ap (λ v. v .closing) (c .before .before .before .before .pre .2))
+part-requires c κs =
+    let start = c .before .before .before .before in
+    let size-checks = c .before .before .size-checks in
+    let z = value-sized (start .args .a) (length (now (start .args .bytes)) - start .args .at) _ (size-checks .result) (size-checks .ensures)
+    (c .enum-told .given .1) in
+    omega (arith, z, ap (λ v. v .closing) (start .pre .2))
 
 returns : tie.Need-returns
-returns c = λ y. value-closed y (now (c .before .before .before .before .before .before .before .args .bytes)) (c .before .before .before .before .before .before .before .args .at) (c .before .before .before .before .before .before .before .args .a) (c .before .before .before .before .before .before .before .args .place) (c .before .before .before .before .before .size-checks .result) (c .before .before .before .before .before .size-checks .ensures y) (c .before .before .before .before .before .before .before .pre .0) (c .before .before .before .enum-told .given .1) _ (ap (λ v. v .closing) (c .before .before .before .before .before .before .before .pre .2)) _ (c .before .before .part .ensures) _ (c .before .all-zero .ensures) _ (c .demand .ensures y)
+returns c =
+    let start = c .before .before .before .before .before .before .before in
+    let size-checks = c .before .before .before .before .before .size-checks in
+    let enum-told = c .before .before .before .enum-told in
+    let part = c .before .before .part in
+    λ y. value-closed y (now (start .args .bytes)) (start .args .at) (start .args .a) (start .args .place) (size-checks .result)
+    (size-checks .ensures y) (start .pre .0) (enum-told .given .1) _ (ap (λ v. v .closing) (start .pre .2)) _ (part .ensures) _
+    (c .before .all-zero .ensures) _ (c .demand .ensures y)
 
 returns-2 : tie.Need-returns-2
-returns-2 c = λ y. value-open y (now (c .before .before .before .before .before .args .bytes)) (c .before .before .before .before .before .args .at) (c .before .before .before .before .before .args .a) (c .before .before .before .before .before .args .place) (c .before .before .before .size-checks .result) (c .before .before .before .size-checks .ensures y) _ (c .before .r .given .1)
+returns-2 c =
+    let start = c .before .before .before .before .before in
+    let size-checks = c .before .before .before .size-checks in
+    λ y. value-open y (now (start .args .bytes)) (start .args .at) (start .args .a) (start .args .place) (size-checks .result)
+    (size-checks .ensures y) _ (c .before .r .given .1)
 
 pub value-checks-spec : {M : Type 1} → statement M
 value-checks-spec =

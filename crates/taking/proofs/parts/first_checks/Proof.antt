@@ -6,7 +6,9 @@ use Rattle.taking.proofs.parts.first_checks.Tie as tie
 
 returns : tie.Need-returns
 unfolding firstRules
-returns c = c .before .before .demand .ensures _ ▸ c .before .feature .ensures ▸ c .demand2 .ensures _
+returns c =
+    let demand = c .before .before .demand in
+    demand .ensures _ ▸ c .before .feature .ensures ▸ c .demand2 .ensures _
 
 pub first-checks-spec : {M : Type 1} → statement M
 first-checks-spec = tie.close (tie.spec (λ c κs. search needs) (λ c κs. search needs) (λ c κs. search needs) returns)

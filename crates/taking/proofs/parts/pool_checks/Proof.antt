@@ -8,10 +8,20 @@ use Rattle.taking.proofs.parts.pool_checks.Statement.{statement}
 use Rattle.taking.proofs.parts.pool_checks.Tie as tie
 
 returns : tie.Need-returns
-returns c = λ y. then-on y _ _ (c .before .before .before .before .element-checks .result) (c .before .before .before .before .element-checks .ensures y) (c .before .before .enum-told .given .1) _ _ (as-checks (ap (λ k. textBy (c .before .before .before .before .before .before .before .args .s) (c .before .before .before .before .before .before .before .args .size) k) (sym (length-drop (c .before .before .before .before .before .before .before .args .p .byte) (now (c .before .before .before .before .before .before .before .args .bytes))))) (c .text-checks .ensures y))
+returns c =
+    let start = c .before .before .before .before .before .before .before in
+    let element-checks = c .before .before .before .before .element-checks in
+    let enum-told = c .before .before .enum-told in
+    λ y. then-on y _ _ (element-checks .result) (element-checks .ensures y) (enum-told .given .1) _ _
+    (as-checks (ap (λ k. textBy (start .args .s) (start .args .size) k) (sym (length-drop (start .args .p .byte) (now (start .args .bytes)))))
+    (c .text-checks .ensures y))
 
 returns-2 : tie.Need-returns-2
-returns-2 c = λ y. then-stop y _ _ (c .before .before .before .element-checks .result) (c .before .before .before .element-checks .ensures y) _ (c .before .r .given .1) (textBy (c .before .before .before .before .before .before .args .s) (c .before .before .before .before .before .before .args .size) (length (drop (c .before .before .before .before .before .before .args .p .byte) (now (c .before .before .before .before .before .before .args .bytes)))))
+returns-2 c =
+    let start = c .before .before .before .before .before .before in
+    let element-checks = c .before .before .before .element-checks in
+    λ y. then-stop y _ _ (element-checks .result) (element-checks .ensures y) _ (c .before .r .given .1)
+    (textBy (start .args .s) (start .args .size) (length (drop (start .args .p .byte) (now (start .args .bytes)))))
 
 pub pool-checks-spec : {M : Type 1} → statement M
 pool-checks-spec =

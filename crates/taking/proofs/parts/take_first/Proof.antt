@@ -11,14 +11,32 @@ use Rattle.taking.proofs.parts.take_first.Tie as tie
 
 take-pools-requires : tie.Need-take-pools-requires
 take-pools-requires c κs =
-    let h = c .before .before .before .before .before .before .before .before .pre .0 in
-    (c .before .before .before .before .before .before .before .before .pre .1, h .byte, omega arith, h .length, first-small _ _ (step-holds _ _ _ (c .before .before .first-checks .result) (c .before .before .first-checks .ensures) (c .enum-told .given .1)), omega arith)
+    let start = c .before .before .before .before .before .before .before .before in
+    let first-checks = c .before .before .first-checks in
+    let h = start .pre .0 in (
+      start .pre .1,
+      h .byte,
+      omega arith,
+      h .length,
+      first-small _ _ (step-holds _ _ _ (first-checks .result) (first-checks .ensures) (c .enum-told .given .1)),
+      omega arith,
+    )
 
 returns : tie.Need-returns
-returns c = first-on (c .before .before .before .before .before .before .before .before .before .args .year) (now (c .before .before .before .before .before .before .before .before .before .args .table)) (now (c .before .before .before .before .before .before .before .before .before .args .elements)) (now (c .before .before .before .before .before .before .before .before .before .args .bytes)) (c .before .before .before .before .before .before .before .before .before .args .p) (referenceOf (c .before .before .before .before .before .before .before .before .before .args .reference)) (firstRules (c .before .before .before .before .before .before .before .before .before .args .word)) (c .before .before .before .first-checks .result) (c .before .before .before .first-checks .ensures) (c .before .enum-told .given .1) _ (c .take-pools .ensures (c .before .before .before .before .before .before .before .before .before .args .year) (now (c .before .before .before .before .before .before .before .before .before .args .table)))
+returns c =
+    let start = c .before .before .before .before .before .before .before .before .before in
+    let first-checks = c .before .before .before .first-checks in
+    first-on (start .args .year) (now (start .args .table)) (now (start .args .elements)) (now (start .args .bytes)) (start .args .p)
+    (referenceOf (start .args .reference)) (firstRules (start .args .word)) (first-checks .result) (first-checks .ensures)
+    (c .before .enum-told .given .1) _ (c .take-pools .ensures (start .args .year) (now (start .args .table)))
 
 returns-2 : tie.Need-returns-2
-returns-2 c = part-stop _ (now (c .before .before .before .before .before .before .before .before .before .args .table)) (now (c .before .before .before .before .before .before .before .before .before .args .elements)) (now (c .before .before .before .before .before .before .before .before .before .args .bytes)) (c .before .before .before .before .before .before .before .before .before .args .p) (referenceOf (c .before .before .before .before .before .before .before .before .before .args .reference)) (firstRules (c .before .before .before .before .before .before .before .before .before .args .word)) (partBytes (referenceOf (c .before .before .before .before .before .before .before .before .before .args .reference))) (c .before .before .before .first-checks .result) (c .before .before .before .first-checks .ensures) _ (c .before .r .given .1)
+returns-2 c =
+    let start = c .before .before .before .before .before .before .before .before .before in
+    let first-checks = c .before .before .before .first-checks in
+    part-stop _ (now (start .args .table)) (now (start .args .elements)) (now (start .args .bytes)) (start .args .p)
+    (referenceOf (start .args .reference)) (firstRules (start .args .word)) (partBytes (referenceOf (start .args .reference)))
+    (first-checks .result) (first-checks .ensures) _ (c .before .r .given .1)
 
 pub take-first-spec : {M : Type 1} → statement M
 take-first-spec =

@@ -22,23 +22,50 @@ abbrev μ-loop : tie.MeasureT-loop
 μ-loop table elements bytes n reference marked left₀ at₀ left at = left
 
 loop-holds : tie.Need-loop-holds Inv-loop μ-loop
-loop-holds c = (c .before .before .before .pre .0, c .before .before .before .pre .1, c .before .before .before .pre .2, λ y. same-start _ _ _ _ _ _ _ _)
+loop-holds c =
+    let start = c .before .before .before in
+    (start .pre .0, start .pre .1, start .pre .2, λ y. same-start _ _ _ _ _ _ _ _)
 
 take-later-requires : tie.Need-take-later-requires Inv-loop μ-loop
-take-later-requires c κs = (c .before .loop .inv .0, c .before .loop .inv .1, omega arith)
+take-later-requires c κs =
+    let loop = c .before .loop in
+    (loop .inv .0, loop .inv .1, omega arith)
 
 returns : tie.Need-returns Inv-loop μ-loop
-returns c = λ y. same-stop _ _ _ _ _ _ _ _ _ _ (c .before .before .before .before .before .loop .inv .3 y) (omega arith) _ (later-stopped y (now (c .before .before .before .before .before .before .before .before .before .args .table)) (now (c .before .before .before .before .before .before .before .before .before .args .elements)) (now (c .before .before .before .before .before .before .before .before .before .args .bytes)) (referenceOf (c .before .before .before .before .before .before .before .before .before .args .reference)) (c .before .before .before .before .before .before .before .before .before .args .marked) _ (c .before .before .before .before .before .loop .inv .0) (omega arith) (c .before .before .before .take-later .result) (c .before .before .before .take-later .ensures y) _ (c .before .r .given .1))
+returns c =
+    let start = c .before .before .before .before .before .before .before .before .before in
+    let loop = c .before .before .before .before .before .loop in
+    let take-later = c .before .before .before .take-later in
+    λ y. same-stop _ _ _ _ _ _ _ _ _ _ (loop .inv .3 y) (omega arith) _
+    (later-stopped y (now (start .args .table)) (now (start .args .elements)) (now (start .args .bytes)) (referenceOf (start .args .reference))
+    (start .args .marked) _ (loop .inv .0) (omega arith) (take-later .result) (take-later .ensures y) _ (c .before .r .given .1))
 
 loop-again : tie.Need-loop-again Inv-loop μ-loop
 loop-again c =
-    let h = c .before .before .before .before .before .loop .inv .0 in
-    let w = later-went 0 (now (c .before .before .before .before .before .before .before .before .before .args .table)) (now (c .before .before .before .before .before .before .before .before .before .args .elements)) (now (c .before .before .before .before .before .before .before .before .before .args .bytes)) (referenceOf (c .before .before .before .before .before .before .before .before .before .args .reference)) (c .before .before .before .before .before .before .before .before .before .args .marked) _ h (omega arith) (c .before .before .before .take-later .result) (c .before .before .before .take-later .ensures 0) _ (c .before .q .given .1) in
-    let n = later-next 0 (now (c .before .before .before .before .before .before .before .before .before .args .table)) (now (c .before .before .before .before .before .before .before .before .before .args .elements)) (now (c .before .before .before .before .before .before .before .before .before .args .bytes)) (referenceOf (c .before .before .before .before .before .before .before .before .before .args .reference)) (c .before .before .before .before .before .before .before .before .before .args .marked) _ h (omega arith) (c .before .before .before .take-later .result) (c .before .before .before .take-later .ensures 0) _ (c .before .q .given .1) in
-    (w .at, w .element (c .before .before .before .before .before .loop .inv .1), omega (arith, n), λ y. same-turn _ _ _ _ _ _ _ _ _ _ _ _ part-numbers (c .before .before .before .before .before .loop .inv .3 y) (omega arith) (later-went y (now (c .before .before .before .before .before .before .before .before .before .args .table)) (now (c .before .before .before .before .before .before .before .before .before .args .elements)) (now (c .before .before .before .before .before .before .before .before .before .args .bytes)) (referenceOf (c .before .before .before .before .before .before .before .before .before .args .reference)) (c .before .before .before .before .before .before .before .before .before .args .marked) _ h (omega arith) (c .before .before .before .take-later .result) (c .before .before .before .take-later .ensures y) _ (c .before .q .given .1)))
+    let start = c .before .before .before .before .before .before .before .before .before in
+    let loop = c .before .before .before .before .before .loop in
+    let take-later = c .before .before .before .take-later in
+    let q = c .before .q in
+    let h = loop .inv .0 in
+    let w = later-went 0 (now (start .args .table)) (now (start .args .elements)) (now (start .args .bytes))
+    (referenceOf (start .args .reference)) (start .args .marked) _ h (omega arith) (take-later .result) (take-later .ensures 0) _
+    (q .given .1) in
+    let n = later-next 0 (now (start .args .table)) (now (start .args .elements)) (now (start .args .bytes))
+    (referenceOf (start .args .reference)) (start .args .marked) _ h (omega arith) (take-later .result) (take-later .ensures 0) _
+    (q .given .1) in (
+      w .at,
+      w .element (loop .inv .1),
+      omega (arith, n),
+      λ y. same-turn _ _ _ _ _ _ _ _ _ _ _ _ part-numbers (loop .inv .3 y) (omega arith)
+          (later-went y (now (start .args .table)) (now (start .args .elements)) (now (start .args .bytes)) (referenceOf (start .args .reference))
+          (start .args .marked) _ h (omega arith) (take-later .result) (take-later .ensures y) _ (q .given .1)),
+    )
 
 returns-2 : tie.Need-returns-2 Inv-loop μ-loop
-returns-2 c = let h = c .before .loop .inv .0 in λ y. same-done _ _ _ _ _ _ _ _ _ _ (c .before .loop .inv .3 y) (omega arith) (h .length)
+returns-2 c =
+    let loop = c .before .loop in
+    let h = loop .inv .0 in
+    λ y. same-done _ _ _ _ _ _ _ _ _ _ (loop .inv .3 y) (omega arith) (h .length)
 
 pub take-laters-spec : {M : Type 1} → statement M
 take-laters-spec =

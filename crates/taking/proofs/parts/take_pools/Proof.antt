@@ -11,16 +11,44 @@ use Rattle.taking.proofs.parts.take_pools.Statement.{statement}
 use Rattle.taking.proofs.parts.take_pools.Tie as tie
 
 add-t17 : tie.Need-add-t17
-add-t17 c = let f = pools-fit 0 [] (now (c .before .before .before .before .before .before .before .before .before .before .args .elements)) (now (c .before .before .before .before .before .before .before .before .before .before .args .bytes)) (c .before .before .before .before .before .before .before .before .before .before .args .p) (referenceOf (c .before .before .before .before .before .before .before .before .before .before .args .reference)) _ (c .before .before .before .before .before .before .before .shape-in .ensures) _ (c .before .before .before .before .before .before .before .before .before .before .args .size) 0 (c .before .before .before .before .before .before .pool-checks .result) (c .before .before .before .before .before .before .pool-checks .ensures 0) (c .before .before .before .before .enum-told .given .1) in omega (arith, f .2, c .before .before .before .before .before .before .before .before .before .before .pre .1)
+add-t17 c =
+    let start = c .before .before .before .before .before .before .before .before .before .before in
+    let shape-in = c .before .before .before .before .before .before .before .shape-in in
+    let pool-checks = c .before .before .before .before .before .before .pool-checks in
+    let enum-told = c .before .before .before .before .enum-told in
+    let f = pools-fit 0 [] (now (start .args .elements)) (now (start .args .bytes)) (start .args .p) (referenceOf (start .args .reference)) _
+    (shape-in .ensures) _ (start .args .size) 0 (pool-checks .result) (pool-checks .ensures 0) (enum-told .given .1) in
+    omega (arith, f .2, start .pre .1)
 
 part-length-requires : tie.Need-part-length-requires
-part-length-requires c κs = let f = pools-fit 0 [] (now (c .before .before .before .before .before .before .before .before .before .before .args .elements)) (now (c .before .before .before .before .before .before .before .before .before .before .args .bytes)) (c .before .before .before .before .before .before .before .before .before .before .args .p) (referenceOf (c .before .before .before .before .before .before .before .before .before .before .args .reference)) _ (c .before .before .before .before .before .before .before .shape-in .ensures) _ (c .before .before .before .before .before .before .before .before .before .before .args .size) 0 (c .before .before .before .before .before .before .pool-checks .result) (c .before .before .before .before .before .before .pool-checks .ensures 0) (c .before .before .before .before .enum-told .given .1) in (c .before .before .before .before .before .before .before .before .before .before .pre .4, f .1)
+part-length-requires c κs =
+    let start = c .before .before .before .before .before .before .before .before .before .before in
+    let shape-in = c .before .before .before .before .before .before .before .shape-in in
+    let pool-checks = c .before .before .before .before .before .before .pool-checks in
+    let enum-told = c .before .before .before .before .enum-told in
+    let f = pools-fit 0 [] (now (start .args .elements)) (now (start .args .bytes)) (start .args .p) (referenceOf (start .args .reference)) _
+    (shape-in .ensures) _ (start .args .size) 0 (pool-checks .result) (pool-checks .ensures 0) (enum-told .given .1) in
+    (start .pre .4, f .1)
 
 returns : tie.Need-returns
-returns c = λ y ns. pool-fine y ns (now (c .before .before .before .before .before .before .before .before .before .before .before .before .args .elements)) (now (c .before .before .before .before .before .before .before .before .before .before .before .before .args .bytes)) (c .before .before .before .before .before .before .before .before .before .before .before .before .args .p) (referenceOf (c .before .before .before .before .before .before .before .before .before .before .before .before .args .reference)) _ (c .before .before .before .before .before .before .before .before .before .shape-in .ensures) _ (c .before .before .before .before .before .before .before .before .before .before .before .before .args .size) (c .before .before .before .before .before .before .before .before .before .before .before .before .args .head) (c .before .before .before .before .before .before .before .before .pool-checks .result) (c .before .before .before .before .before .before .before .before .pool-checks .ensures y) (c .before .before .before .before .before .before .enum-told .given .1) _ (c .before .before .before .before .before .elements-of .ensures .0) _ (c .longer .ensures ∙ ap (λ n. capped (c .before .before .before .before .before .before .before .before .before .before .before .before .args .p .length + (c .before .before .before .before .before .before .before .before .before .before .before .before .args .head + n))) (c .before .part-length .ensures .0))
+returns c =
+    let start = c .before .before .before .before .before .before .before .before .before .before .before .before in
+    let shape-in = c .before .before .before .before .before .before .before .before .before .shape-in in
+    let pool-checks = c .before .before .before .before .before .before .before .before .pool-checks in
+    let enum-told = c .before .before .before .before .before .before .enum-told in
+    let elements-of = c .before .before .before .before .before .elements-of in
+    λ y ns. pool-fine y ns (now (start .args .elements)) (now (start .args .bytes)) (start .args .p) (referenceOf (start .args .reference)) _
+    (shape-in .ensures) _ (start .args .size) (start .args .head) (pool-checks .result) (pool-checks .ensures y) (enum-told .given .1) _
+    (elements-of .ensures .0) _
+    (c .longer .ensures ∙ ap (λ n. capped (start .args .p .length + (start .args .head + n))) (c .before .part-length .ensures .0))
 
 returns-2 : tie.Need-returns-2
-returns-2 c = λ y ns. pool-stop y ns (now (c .before .before .before .before .before .before .before .args .elements)) (now (c .before .before .before .before .before .before .before .args .bytes)) (c .before .before .before .before .before .before .before .args .p) (referenceOf (c .before .before .before .before .before .before .before .args .reference)) _ (c .before .before .before .before .shape-in .ensures) _ (c .before .before .before .before .before .before .before .args .size) (c .before .before .before .before .before .before .before .args .head) (c .before .before .before .pool-checks .result) (c .before .before .before .pool-checks .ensures y) _ (c .before .r .given .1)
+returns-2 c =
+    let start = c .before .before .before .before .before .before .before in
+    let shape-in = c .before .before .before .before .shape-in in
+    let pool-checks = c .before .before .before .pool-checks in
+    λ y ns. pool-stop y ns (now (start .args .elements)) (now (start .args .bytes)) (start .args .p) (referenceOf (start .args .reference)) _
+    (shape-in .ensures) _ (start .args .size) (start .args .head) (pool-checks .result) (pool-checks .ensures y) _ (c .before .r .given .1)
 
 pub take-pools-spec : {M : Type 1} → statement M
 take-pools-spec =

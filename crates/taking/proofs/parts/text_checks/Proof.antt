@@ -4,7 +4,9 @@ use Rattle.taking.proofs.parts.text_checks.Statement.{statement}
 use Rattle.taking.proofs.parts.text_checks.Tie as tie
 
 returns : tie.Need-returns
-returns c = λ y. c .before .before .before .demand .ensures y ▸ c .before .demand2 .ensures y ▸ c .demand3 .ensures y
+returns c =
+    let demand = c .before .before .before .demand in
+    λ y. demand .ensures y ▸ c .before .demand2 .ensures y ▸ c .demand3 .ensures y
 
 pub text-checks-spec : {M : Type 1} → statement M
 text-checks-spec = tie.close (tie.spec (λ c κs. search needs) (λ c κs. search needs) (λ c κs. search needs) returns)

@@ -12,11 +12,15 @@ use Rattle.taking.proofs.rows.count_checks.Tie as tie
 
 returns : tie.Need-returns
 unfolding countRules
-returns c = λ y.
+returns c =
+    let demand = c .before .before .before .before .before .before .before .before .demand in
+    let demand2 = c .before .before .before .before .before .before .demand2 in
+    let demand3 = c .before .before .before .demand3 in
+    λ y.
     let a = c .before .before .before .before .before .before .before .before .before .before .before .args .a in
-    link (must (ltb (a .generalisation) 256) TABLE 4) (c .before .before .before .before .before .before .before .before .demand .result) (c .before .before .before .before .before .before .before .before .demand .ensures y)
-    ▸ link (must (ltb (a .word) 4294967296) TABLE 5) (c .before .before .before .before .before .before .demand2 .result) (c .before .before .before .before .before .before .demand2 .ensures y)
-    ▸ link (must (leb 1 (a .parts) && leb (a .parts) 65536) TABLE 6) (c .before .before .before .demand3 .result) (c .before .before .before .demand3 .ensures y)
+    link (must (ltb (a .generalisation) 256) TABLE 4) (demand .result) (demand .ensures y)
+    ▸ link (must (ltb (a .word) 4294967296) TABLE 5) (demand2 .result) (demand2 .ensures y)
+    ▸ link (must (leb 1 (a .parts) && leb (a .parts) 65536) TABLE 6) (demand3 .result) (demand3 .ensures y)
     ▸ as-checks (ap (λ b. must b TABLE 7 ∷ []) (c .before .agree .ensures)) (c .demand4 .ensures y)
 
 pub count-checks-spec : {M : Type 1} → statement M

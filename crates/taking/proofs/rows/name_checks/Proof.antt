@@ -6,7 +6,11 @@ use Rattle.taking.proofs.rows.name_checks.Tie as tie
 
 returns : tie.Need-returns
 unfolding nameRules
-returns c = λ y. c .before .before .before .before .before .before .demand .ensures y ▸ c .before .before .before .before .demand2 .ensures y ▸ c .before .before .demand3 .ensures y ▸ c .demand4 .ensures y
+returns c =
+    let demand = c .before .before .before .before .before .before .demand in
+    let demand2 = c .before .before .before .before .demand2 in
+    let demand3 = c .before .before .demand3 in
+    λ y. demand .ensures y ▸ demand2 .ensures y ▸ demand3 .ensures y ▸ c .demand4 .ensures y
 
 pub name-checks-spec : {M : Type 1} → statement M
 name-checks-spec =

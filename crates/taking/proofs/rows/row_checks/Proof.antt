@@ -7,7 +7,12 @@ use Rattle.taking.proofs.rows.row_checks.Statement.{statement}
 use Rattle.taking.proofs.rows.row_checks.Tie as tie
 
 returns : tie.Need-returns
-returns c = as-checks (ap (λ b. must b 14 0 ∷ []) (c .before .before .before .before .room .ensures)) (c .before .before .before .demand .ensures _) ▸ c .before .before .name-checks .ensures _ ▸ c .before .reference-checks .ensures ▸ c .count-checks .ensures _
+returns c =
+    let room = c .before .before .before .before .room in
+    let demand = c .before .before .before .demand in
+    let name-checks = c .before .before .name-checks in
+    as-checks (ap (λ b. must b 14 0 ∷ []) (room .ensures)) (demand .ensures _) ▸ name-checks .ensures _ ▸ c .before .reference-checks .ensures
+    ▸ c .count-checks .ensures _
 
 pub row-checks-spec : {M : Type 1} → statement M
 row-checks-spec =

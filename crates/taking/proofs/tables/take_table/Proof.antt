@@ -16,30 +16,76 @@ abbrev μ-loop : tie.MeasureT-loop
 μ-loop table elements bytes year p₀ records₀ p records = length table - p .number
 
 loop-holds : tie.Need-loop-holds Inv-loop μ-loop
-loop-holds c = (record { number = omega arith; byte = omega arith; length = omega arith; isBytes = all-bytes (now (c .before .before .before .args .bytes)) (λ i. omega (arith, c .shared-slice-known3 .given i)) }, omega arith, omega arith, going-start _ _ _ _)
+loop-holds c =
+    let start = c .before .before .before in (
+      record {
+        number = omega arith;
+        byte = omega arith;
+        length = omega arith;
+        isBytes = all-bytes (now (start .args .bytes)) (λ i. omega (arith, c .shared-slice-known3 .given i));
+      },
+      omega arith,
+      omega arith,
+      going-start _ _ _ _,
+    )
 
 take-row-requires : tie.Need-take-row-requires Inv-loop μ-loop
-take-row-requires c κs = (c .before .before .loop .inv .0, c .before .before .loop .inv .1)
+take-row-requires c κs =
+    let loop = c .before .before .loop in
+    (loop .inv .0, loop .inv .1)
 
 returns : tie.Need-returns Inv-loop μ-loop
-returns c = going-stop (c .before .before .before .before .before .before .before .before .before .before .args .year) (now (c .before .before .before .before .before .before .before .before .before .before .args .table)) (now (c .before .before .before .before .before .before .before .before .before .before .args .elements)) (now (c .before .before .before .before .before .before .before .before .before .before .args .bytes)) _ _ (c .before .before .before .before .before .before .loop .inv .3) (c .before .before .before .before .before .before .loop .inv .0) (c .before .before .before .before .if1 .taken) (c .before .before .before .take-row .result) (c .before .before .before .take-row .ensures) _ (c .before .r .given .1)
+returns c =
+    let start = c .before .before .before .before .before .before .before .before .before .before in
+    let loop = c .before .before .before .before .before .before .loop in
+    let if1 = c .before .before .before .before .if1 in
+    let take-row = c .before .before .before .take-row in
+    going-stop (start .args .year) (now (start .args .table)) (now (start .args .elements)) (now (start .args .bytes)) _ _ (loop .inv .3)
+    (loop .inv .0) (if1 .taken) (take-row .result) (take-row .ensures) _ (c .before .r .given .1)
 
 loop-less : tie.Need-loop-less Inv-loop μ-loop
 loop-less c =
-    let n = row-next (c .before .before .before .before .before .before .before .before .before .before .args .year) (now (c .before .before .before .before .before .before .before .before .before .before .args .table)) (now (c .before .before .before .before .before .before .before .before .before .before .args .elements)) (now (c .before .before .before .before .before .before .before .before .before .before .args .bytes)) _ _ (c .before .before .before .before .before .before .loop .inv .3) (c .before .before .before .before .before .before .loop .inv .0) (c .before .before .before .before .if1 .taken) (c .before .before .before .take-row .result) (c .before .before .before .take-row .ensures) _ (c .before .q .given .1) in
+    let start = c .before .before .before .before .before .before .before .before .before .before in
+    let loop = c .before .before .before .before .before .before .loop in
+    let if1 = c .before .before .before .before .if1 in
+    let take-row = c .before .before .before .take-row in
+    let n = row-next (start .args .year) (now (start .args .table)) (now (start .args .elements)) (now (start .args .bytes)) _ _ (loop .inv .3)
+    (loop .inv .0) (if1 .taken) (take-row .result) (take-row .ensures) _ (c .before .q .given .1) in
     omega (arith, n)
 
 loop-again : tie.Need-loop-again Inv-loop μ-loop
 loop-again c =
-    let n = row-next (c .before .before .before .before .before .before .before .before .before .before .args .year) (now (c .before .before .before .before .before .before .before .before .before .before .args .table)) (now (c .before .before .before .before .before .before .before .before .before .before .args .elements)) (now (c .before .before .before .before .before .before .before .before .before .before .args .bytes)) _ _ (c .before .before .before .before .before .before .loop .inv .3) (c .before .before .before .before .before .before .loop .inv .0) (c .before .before .before .before .if1 .taken) (c .before .before .before .take-row .result) (c .before .before .before .take-row .ensures) _ (c .before .q .given .1) in
-    let w = row-went (c .before .before .before .before .before .before .before .before .before .before .args .year) (now (c .before .before .before .before .before .before .before .before .before .before .args .table)) (now (c .before .before .before .before .before .before .before .before .before .before .args .elements)) (now (c .before .before .before .before .before .before .before .before .before .before .args .bytes)) _ _ (c .before .before .before .before .before .before .loop .inv .3) (c .before .before .before .before .before .before .loop .inv .0) (c .before .before .before .before .if1 .taken) (c .before .before .before .take-row .result) (c .before .before .before .take-row .ensures) _ (c .before .q .given .1) in
-    (w .at, w .element (c .before .before .before .before .before .before .loop .inv .1), omega (arith, n), going-turn (c .before .before .before .before .before .before .before .before .before .before .args .year) (now (c .before .before .before .before .before .before .before .before .before .before .args .table)) (now (c .before .before .before .before .before .before .before .before .before .before .args .elements)) (now (c .before .before .before .before .before .before .before .before .before .before .args .bytes)) _ _ (c .before .before .before .before .before .before .loop .inv .3) (c .before .before .before .before .before .before .loop .inv .0) (c .before .before .before .before .if1 .taken) (c .before .before .before .take-row .result) (c .before .before .before .take-row .ensures) _ (c .before .q .given .1))
+    let start = c .before .before .before .before .before .before .before .before .before .before in
+    let loop = c .before .before .before .before .before .before .loop in
+    let if1 = c .before .before .before .before .if1 in
+    let take-row = c .before .before .before .take-row in
+    let q = c .before .q in
+    let n = row-next (start .args .year) (now (start .args .table)) (now (start .args .elements)) (now (start .args .bytes)) _ _ (loop .inv .3)
+    (loop .inv .0) (if1 .taken) (take-row .result) (take-row .ensures) _ (q .given .1) in
+    let w = row-went (start .args .year) (now (start .args .table)) (now (start .args .elements)) (now (start .args .bytes)) _ _ (loop .inv .3)
+    (loop .inv .0) (if1 .taken) (take-row .result) (take-row .ensures) _ (q .given .1) in (
+      w .at,
+      w .element (loop .inv .1),
+      omega (arith, n),
+      going-turn (start .args .year) (now (start .args .table)) (now (start .args .elements)) (now (start .args .bytes)) _ _ (loop .inv .3)
+          (loop .inv .0) (if1 .taken) (take-row .result) (take-row .ensures) _ (q .given .1),
+    )
 
 returns-2 : tie.Need-returns-2 Inv-loop μ-loop
-returns-2 c = going-done (c .before .before .before .before .before .before .before .before .before .args .year) (now (c .before .before .before .before .before .before .before .before .before .args .table)) (now (c .before .before .before .before .before .before .before .before .before .args .elements)) (now (c .before .before .before .before .before .before .before .before .before .args .bytes)) _ _ (c .before .before .before .before .before .loop .inv .3) (c .before .before .before .before .before .loop .inv .0) (c .before .before .before .if1 .left) (c .if2 .taken)
+returns-2 c =
+    let start = c .before .before .before .before .before .before .before .before .before in
+    let loop = c .before .before .before .before .before .loop in
+    let if1 = c .before .before .before .if1 in
+    going-done (start .args .year) (now (start .args .table)) (now (start .args .elements)) (now (start .args .bytes)) _ _ (loop .inv .3)
+    (loop .inv .0) (if1 .left) (c .if2 .taken)
 
 returns-3 : tie.Need-returns-3 Inv-loop μ-loop
-returns-3 c = going-left (c .before .before .before .before .before .before .before .before .before .args .year) (now (c .before .before .before .before .before .before .before .before .before .args .table)) (now (c .before .before .before .before .before .before .before .before .before .args .elements)) (now (c .before .before .before .before .before .before .before .before .before .args .bytes)) _ _ (c .before .before .before .before .before .loop .inv .3) (c .before .before .before .before .before .loop .inv .0) (c .before .before .before .if1 .left) (c .if2 .left)
+returns-3 c =
+    let start = c .before .before .before .before .before .before .before .before .before in
+    let loop = c .before .before .before .before .before .loop in
+    let if1 = c .before .before .before .if1 in
+    going-left (start .args .year) (now (start .args .table)) (now (start .args .elements)) (now (start .args .bytes)) _ _ (loop .inv .3)
+    (loop .inv .0) (if1 .left) (c .if2 .left)
 
 pub take-table-spec : {M : Type 1} → statement M
 take-table-spec =
