@@ -11,12 +11,24 @@ use Rattle.heading.proofs.bytes.emit_descriptor.Tie as tie
 
 returns : tie.Need-returns
 returns c =
-    let a = first (now (c .before .before .before .before .before .before .before .before .before .before .before .before .before .before .before .before .before .before .before .before .before .before .before .before .before .before .before .args .out)) 400 (bytes 4 0x00544144) 4 _ refl (c .before .before .before .before .before .before .before .before .before .before .before .before .before .before .before .before .before .before .before .before .before .before .put-u32 .ensures) in
-    let b = next a (bytes 4 52) 4 _ refl (c .before .before .before .before .before .before .before .before .before .before .before .before .before .before .before .before .before .before .put-u322 .ensures) in
-    let d = next b (padded Descriptor.designation (now (c .before .before .before .before .before .before .before .before .before .before .before .before .before .before .before .before .before .before .before .before .before .before .before .before .before .before .before .args .designation2))) 32 _ (padded-length (now (c .before .before .before .before .before .before .before .before .before .before .before .before .before .before .before .before .before .before .before .before .before .before .before .before .before .before .before .args .designation2)) 32 (c .before .before .before .before .before .before .before .before .before .before .before .before .before .before .before .before .before .before .before .before .before .before .before .before .before .before .before .pre .0)) (c .before .before .before .before .before .before .before .before .before .before .before .before .before .before .put-text .ensures) in
-    let e = next d (bytes 4 (c .before .before .before .before .before .before .before .before .before .before .before .before .before .before .before .before .before .before .before .before .before .before .before .before .before .before .before .args .count)) 4 _ refl (c .before .before .before .before .before .before .before .before .before .before .put-u323 .ensures) in
-    let f = next e (now (c .before .before .before .before .before .before .before .before .before .before .before .before .before .before .before .before .before .before .before .before .before .before .before .before .before .before .before .args .carried)) 4 _ (c .before .before .before .before .before .before .before .before .before .before .before .before .before .before .before .before .before .before .before .before .before .before .before .before .before .before .before .pre .1) (rw (whole (now (c .before .before .before .before .before .before .before .before .before .before .before .before .before .before .before .before .before .before .before .before .before .before .before .before .before .before .before .args .carried)) 4 (c .before .before .before .before .before .before .before .before .before .before .before .before .before .before .before .before .before .before .before .before .before .before .before .before .before .before .before .pre .1)) at (c .before .before .before .before .before .before .put-bytes .ensures)) in
-    next f (replicate 4 0) 4 _ refl (c .before .before .put-zeros .ensures) .is
+    let start = c .before .before .before .before .before .before .before .before .before .before .before .before .before .before .before
+    .before .before .before .before .before .before .before .before .before .before .before .before in
+    let put-u32 = c .before .before .before .before .before .before .before .before .before .before .before .before .before .before .before
+    .before .before .before .before .before .before .before .put-u32 in
+    let put-u322 = c .before .before .before .before .before .before .before .before .before .before .before .before .before .before .before
+    .before .before .before .put-u322 in
+    let put-text = c .before .before .before .before .before .before .before .before .before .before .before .before .before .before .put-text in
+    let put-u323 = c .before .before .before .before .before .before .before .before .before .before .put-u323 in
+    let put-bytes = c .before .before .before .before .before .before .put-bytes in
+    let put-zeros = c .before .before .put-zeros in
+    let a = first (now (start .args .out)) 400 (bytes 4 0x00544144) 4 _ refl (put-u32 .ensures) in
+    let b = next a (bytes 4 52) 4 _ refl (put-u322 .ensures) in
+    let d = next b (padded Descriptor.designation (now (start .args .designation2))) 32 _
+    (padded-length (now (start .args .designation2)) 32 (start .pre .0)) (put-text .ensures) in
+    let e = next d (bytes 4 (start .args .count)) 4 _ refl (put-u323 .ensures) in
+    let f = next e (now (start .args .carried)) 4 _ (start .pre .1)
+    (rw (whole (now (start .args .carried)) 4 (start .pre .1)) at (put-bytes .ensures)) in
+    next f (replicate 4 0) 4 _ refl (put-zeros .ensures) .is
 
 pub emit-descriptor-spec : {M : Type 1} → statement M
 emit-descriptor-spec =

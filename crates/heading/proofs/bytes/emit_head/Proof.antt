@@ -9,18 +9,25 @@ use Rattle.heading.proofs.bytes.emit_head.Tie as tie
 
 returns : tie.Need-returns
 returns c =
-    let o = now (c .before .before .before .before .before .before .before .before .before .before .before .before .before .before .before .before .before .before .before .args .out) in
-    let date = now (c .before .before .before .before .before .before .before .before .before .before .before .before .before .before .before .before .before .before .before .args .date) in
-    let designation = now (c .before .before .before .before .before .before .before .before .before .before .before .before .before .before .before .before .before .before .before .args .designation) in
-    let scale = c .before .before .before .before .before .before .before .before .before .before .before .before .before .before .before .before .before .before .before .args .scale in
-    let title = now (c .before .before .before .before .before .before .before .before .before .before .before .before .before .before .before .before .before .before .before .args .title) in
-    let rest = now (c .before .before .before .before .before .before .before .before .before .before .before .before .before .before .before .before .before .before .before .args .rest) in
-    let designation2 = now (c .before .before .before .before .before .before .before .before .before .before .before .before .before .before .before .before .before .before .before .args .designation2) in
-    let carried = now (c .before .before .before .before .before .before .before .before .before .before .before .before .before .before .before .before .before .before .before .args .carried) in
-    let count = c .before .before .before .before .before .before .before .before .before .before .before .before .before .before .before .before .before .before .before .args .count in
-    let a = first o 0 (startBytes date) 28 _ (start-length date (c .before .before .before .before .before .before .before .before .before .before .before .before .before .before .before .before .before .before .before .pre .0)) (c .before .before .before .before .before .before .before .before .before .before .emit-start .ensures) in
-    let b = next a (nameBytes designation scale title rest) 372 _ (name-length designation scale title rest (c .before .before .before .before .before .before .before .before .before .before .before .before .before .before .before .before .before .before .before .pre .1) (c .before .before .before .before .before .before .before .before .before .before .before .before .before .before .before .before .before .before .before .pre .2) (c .before .before .before .before .before .before .before .before .before .before .before .before .before .before .before .before .before .before .before .pre .3)) (c .before .before .before .before .before .before .emit-names .ensures) in
-    let d = next b (descriptorBytes designation2 count carried) 52 _ (descriptor-length designation2 count carried (c .before .before .before .before .before .before .before .before .before .before .before .before .before .before .before .before .before .before .before .pre .4) (c .before .before .before .before .before .before .before .before .before .before .before .before .before .before .before .before .before .before .before .pre .5)) (c .before .before .emit-descriptor .ensures) in
+    let start = c .before .before .before .before .before .before .before .before .before .before .before .before .before .before .before
+    .before .before .before .before in
+    let emit-start = c .before .before .before .before .before .before .before .before .before .before .emit-start in
+    let emit-names = c .before .before .before .before .before .before .emit-names in
+    let emit-descriptor = c .before .before .emit-descriptor in
+    let o = now (start .args .out) in
+    let date = now (start .args .date) in
+    let designation = now (start .args .designation) in
+    let scale = start .args .scale in
+    let title = now (start .args .title) in
+    let rest = now (start .args .rest) in
+    let designation2 = now (start .args .designation2) in
+    let carried = now (start .args .carried) in
+    let count = start .args .count in
+    let a = first o 0 (startBytes date) 28 _ (start-length date (start .pre .0)) (emit-start .ensures) in
+    let b = next a (nameBytes designation scale title rest) 372 _
+    (name-length designation scale title rest (start .pre .1) (start .pre .2) (start .pre .3)) (emit-names .ensures) in
+    let d = next b (descriptorBytes designation2 count carried) 52 _
+    (descriptor-length designation2 count carried (start .pre .4) (start .pre .5)) (emit-descriptor .ensures) in
     d .is ∙ ap (λ u. sets o 0 u) (head-parts (headOf date designation scale title rest designation2 carried) count)
 
 pub emit-head-spec : {M : Type 1} → statement M

@@ -10,10 +10,18 @@ use Rattle.heading.proofs.bytes.emit_names.Tie as tie
 
 returns : tie.Need-returns
 returns c =
-    let a = first (now (c .before .before .before .before .before .before .before .before .before .before .before .before .before .before .before .before .before .before .before .before .args .out)) 28 (padded Passport.designation (now (c .before .before .before .before .before .before .before .before .before .before .before .before .before .before .before .before .before .before .before .before .args .designation))) 32 _ (padded-length (now (c .before .before .before .before .before .before .before .before .before .before .before .before .before .before .before .before .before .before .before .before .args .designation)) 32 (c .before .before .before .before .before .before .before .before .before .before .before .before .before .before .before .before .before .before .before .before .pre .0)) (c .before .before .before .before .before .before .before .before .before .before .before .before .before .before .put-text .ensures) in
-    let b = next a (bytes 4 (c .before .before .before .before .before .before .before .before .before .before .before .before .before .before .before .before .before .before .before .before .args .scale)) 4 _ refl (c .before .before .before .before .before .before .before .before .before .before .put-u32 .ensures) in
-    let d = next b (padded Passport.title (now (c .before .before .before .before .before .before .before .before .before .before .before .before .before .before .before .before .before .before .before .before .args .title))) 32 _ (padded-length (now (c .before .before .before .before .before .before .before .before .before .before .before .before .before .before .before .before .before .before .before .before .args .title)) 32 (c .before .before .before .before .before .before .before .before .before .before .before .before .before .before .before .before .before .before .before .before .pre .1)) (c .before .before .before .before .before .before .put-text2 .ensures) in
-    next d (now (c .before .before .before .before .before .before .before .before .before .before .before .before .before .before .before .before .before .before .before .before .args .rest)) 304 _ (c .before .before .before .before .before .before .before .before .before .before .before .before .before .before .before .before .before .before .before .before .pre .2) (rw (whole (now (c .before .before .before .before .before .before .before .before .before .before .before .before .before .before .before .before .before .before .before .before .args .rest)) 304 (c .before .before .before .before .before .before .before .before .before .before .before .before .before .before .before .before .before .before .before .before .pre .2)) at (c .before .before .put-bytes .ensures)) .is
+    let start = c .before .before .before .before .before .before .before .before .before .before .before .before .before .before .before
+    .before .before .before .before .before in
+    let put-text = c .before .before .before .before .before .before .before .before .before .before .before .before .before .before .put-text in
+    let put-u32 = c .before .before .before .before .before .before .before .before .before .before .put-u32 in
+    let put-text2 = c .before .before .before .before .before .before .put-text2 in
+    let put-bytes = c .before .before .put-bytes in
+    let a = first (now (start .args .out)) 28 (padded Passport.designation (now (start .args .designation))) 32 _
+    (padded-length (now (start .args .designation)) 32 (start .pre .0)) (put-text .ensures) in
+    let b = next a (bytes 4 (start .args .scale)) 4 _ refl (put-u32 .ensures) in
+    let d = next b (padded Passport.title (now (start .args .title))) 32 _ (padded-length (now (start .args .title)) 32 (start .pre .1))
+    (put-text2 .ensures) in
+    next d (now (start .args .rest)) 304 _ (start .pre .2) (rw (whole (now (start .args .rest)) 304 (start .pre .2)) at (put-bytes .ensures)) .is
 
 pub emit-names-spec : {M : Type 1} → statement M
 emit-names-spec =

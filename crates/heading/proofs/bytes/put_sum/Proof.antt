@@ -9,15 +9,23 @@ use Rattle.heading.proofs.bytes.put_sum.Statement.{statement}
 use Rattle.heading.proofs.bytes.put_sum.Tie as tie
 
 slice-aggregate-sheet-sum : tie.Need-slice-aggregate-sheet-sum
-slice-aggregate-sheet-sum c = sym (length-take-le (c .before .before .args .n) (now (c .before .before .args .out)) (c .before .before .pre .1))
+slice-aggregate-sheet-sum c =
+    let start = c .before .before in
+    sym (length-take-le (start .args .n) (now (start .args .out)) (start .pre .1))
 
 sheet-sum-requires : tie.Need-sheet-sum-requires
-sheet-sum-requires c κs = let l = length-take-le (c .before .before .args .n) (now (c .before .before .args .out)) (c .before .before .pre .1) in (omega (arith, l, c .before .before .pre .0), omega (arith, l, c .before .before .pre .2))
+sheet-sum-requires c κs =
+    let start = c .before .before in
+    let l = length-take-le (start .args .n) (now (start .args .out)) (start .pre .1) in
+    (omega (arith, l, start .pre .0), omega (arith, l, start .pre .2))
 
 returns : tie.Need-returns
 returns c =
-    let out = now (c .before .before .before .before .before .before .before .args .out) in
-    c .before .before .put-u32 .ensures ∙ ap (λ (v : ℕ). sets out 12 (bytes 4 v)) (c .before .before .before .before .sheet-sum .ensures)
+    let start = c .before .before .before .before .before .before .before in
+    let sheet-sum = c .before .before .before .before .sheet-sum in
+    let put-u32 = c .before .before .put-u32 in
+    let out = now (start .args .out) in
+    put-u32 .ensures ∙ ap (λ (v : ℕ). sets out 12 (bytes 4 v)) (sheet-sum .ensures)
 
 pub put-sum-spec : {M : Type 1} → statement M
 put-sum-spec =

@@ -13,12 +13,20 @@ use Rattle.heading.proofs.checks.check_head.Tie as tie
 returns : tie.Need-returns
 unfolding titleRules
 returns c =
-    let year = c .before .before .before .before .before .before .before .before .before .before .before .before .args .year in
-    let date : Next _ year 0 (textFits Passport.date (now (c .before .before .before .before .before .before .before .before .before .before .before .before .args .date)) ∷ []) (c .before .before .before .before .before .text-fits .result) = c .before .before .before .before .before .text-fits .ensures year in
-    let designation : Next _ year 0 (textFits Passport.designation (now (c .before .before .before .before .before .before .before .before .before .before .before .before .args .designation)) ∷ []) (c .before .before .before .before .text-fits2 .result) = c .before .before .before .before .text-fits2 .ensures year in
-    let title : Next _ year 0 (textFits Passport.title (now (c .before .before .before .before .before .before .before .before .before .before .before .before .args .title)) ∷ []) (c .before .before .before .text-fits3 .result) = c .before .before .before .text-fits3 .ensures year in
-    let designation2 : Next _ year 0 (textFits Descriptor.designation (now (c .before .before .before .before .before .before .before .before .before .before .before .before .args .designation2)) ∷ []) (c .before .text-fits4 .result) = c .before .text-fits4 .ensures year in
-    λ scale. date ▸ designation ▸ title ▸ c .before .before .rest-of-passport .ensures ▸ designation2 ▸ c .carried .ensures
+    let start = c .before .before .before .before .before .before .before .before .before .before .before .before in
+    let text-fits = c .before .before .before .before .before .text-fits in
+    let text-fits2 = c .before .before .before .before .text-fits2 in
+    let text-fits3 = c .before .before .before .text-fits3 in
+    let rest-of-passport = c .before .before .rest-of-passport in
+    let text-fits4 = c .before .text-fits4 in
+    let year = start .args .year in
+    let date : Next _ year 0 (textFits Passport.date (now (start .args .date)) ∷ []) (text-fits .result) = text-fits .ensures year in
+    let designation : Next _ year 0 (textFits Passport.designation (now (start .args .designation)) ∷ [])
+    (text-fits2 .result) = text-fits2 .ensures year in
+    let title : Next _ year 0 (textFits Passport.title (now (start .args .title)) ∷ []) (text-fits3 .result) = text-fits3 .ensures year in
+    let designation2 : Next _ year 0 (textFits Descriptor.designation (now (start .args .designation2)) ∷ [])
+    (text-fits4 .result) = text-fits4 .ensures year in
+    λ scale. date ▸ designation ▸ title ▸ rest-of-passport .ensures ▸ designation2 ▸ c .carried .ensures
 
 pub check-head-spec : {M : Type 1} → statement M
 check-head-spec =

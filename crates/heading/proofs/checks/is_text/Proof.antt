@@ -6,10 +6,14 @@ use Rattle.heading.proofs.checks.is_text.Statement.{statement}
 use Rattle.heading.proofs.checks.is_text.Tie as tie
 
 returns : tie.Need-returns
-returns c = short-text (now (c .before .before .before .args .text)) (c .before .before .before .args .width) _ (c .text-length .ensures) (omega arith)
+returns c =
+    let start = c .before .before .before in
+    short-text (now (start .args .text)) (start .args .width) _ (c .text-length .ensures) (omega arith)
 
 returns-2 : tie.Need-returns-2
-returns-2 c = long-text (now (c .before .before .args .text)) (c .before .before .args .width) (omega arith)
+returns-2 c =
+    let start = c .before .before in
+    long-text (now (start .args .text)) (start .args .width) (omega arith)
 
 pub is-text-spec : {M : Type 1} → statement M
 is-text-spec = tie.close (tie.spec (λ c κs. search needs) returns returns-2)

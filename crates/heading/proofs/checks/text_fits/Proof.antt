@@ -3,7 +3,9 @@ use Rattle.heading.proofs.checks.text_fits.Statement.{statement}
 use Rattle.heading.proofs.checks.text_fits.Tie as tie
 
 returns : tie.Need-returns
-returns c = λ y. rw (c .before .is-text .ensures (c .before .before .before .args .place)) at (c .demand .ensures y)
+returns c =
+    let start = c .before .before .before in
+    λ y. rw (c .before .is-text .ensures (start .args .place)) at (c .demand .ensures y)
 
 pub text-fits-spec : {M : Type 1} → statement M
 text-fits-spec = tie.close (tie.spec (λ c κs. search needs) (λ c κs. search needs) returns)
