@@ -5,13 +5,24 @@ use Rattle.emitting.proofs.headers.put_counts.Statement.{statement}
 use Rattle.emitting.proofs.headers.put_counts.Tie as tie
 
 sub-put-u16 : tie.Need-sub-put-u16
-sub-put-u16 c = let a = counts-fit (c .before .before .before .before .args .table .now) (c .before .before .before .before .args .at) (c .before .before .before .before .pre .1) in omega (arith, a)
+sub-put-u16 c =
+    let start = c .before .before .before .before in
+    let a = counts-fit (start .args .table .now) (start .args .at) (start .pre .1) in
+    omega (arith, a)
 
 cast-put-u16 : tie.Need-cast-put-u16
-cast-put-u16 c = let a = counts-fit (c .before .before .before .before .args .table .now) (c .before .before .before .before .args .at) (c .before .before .before .before .pre .1) in omega (arith, a)
+cast-put-u16 c =
+    let start = c .before .before .before .before in
+    let a = counts-fit (start .args .table .now) (start .args .at) (start .pre .1) in
+    omega (arith, a)
 
 returns : tie.Need-returns
-returns c = counts-wrote (c .before .before .before .before .before .before .before .before .before .before .before .before .before .args .table .now) (c .before .before .before .before .before .before .before .before .before .before .before .before .before .args .at) _ _ _ _ _ (c .before .before .before .points-of .ensures) (c .before .before .before .before .before .before .before .before .put-u16 .ensures) (c .before .before .put-u162 .ensures)
+returns c =
+    let start = c .before .before .before .before .before .before .before .before .before .before .before .before .before in
+    let put-u16 = c .before .before .before .before .before .before .before .before .put-u16 in
+    let points-of = c .before .before .before .points-of in
+    let put-u162 = c .before .before .put-u162 in
+    counts-wrote (start .args .table .now) (start .args .at) _ _ _ _ _ (points-of .ensures) (put-u16 .ensures) (put-u162 .ensures)
 
 pub put-counts-spec : {M : Type 1} → statement M
 put-counts-spec =

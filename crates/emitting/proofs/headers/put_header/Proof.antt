@@ -4,7 +4,16 @@ use Rattle.emitting.proofs.headers.put_header.Statement.{statement}
 use Rattle.emitting.proofs.headers.put_header.Tie as tie
 
 returns : tie.Need-returns
-returns c = header-wrote (c .before .before .before .before .before .before .before .before .before .before .before .before .before .before .before .before .before .before .args .table .now) (c .before .before .before .before .before .before .before .before .before .before .before .before .before .before .before .before .before .before .args .at) (c .before .before .before .before .before .before .before .before .before .before .before .before .before .before .before .before .before .before .args .out .now) _ _ _ _ (c .before .before .before .before .before .before .before .before .before .before .before .before .before .before .before .before .before .before .args .w) (c .before .before .before .before .before .before .before .before .before .before .before .before .before .before .before .before .before .before .args .metric) (c .before .before .before .before .before .before .before .before .before .before .before .before .before .before .before .before .before .before .args .semantics) (c .before .before .before .before .before .before .before .before .before .before .before .before .before .before .put-lengths .ensures) (c .before .before .before .before .before .before .before .before .before .before .put-names .ensures) (c .before .before .before .before .before .before .put-marks .ensures) (c .before .before .put-counts .ensures)
+returns c =
+    let start = c .before .before .before .before .before .before .before .before .before .before .before .before .before .before .before
+    .before .before .before in
+    let put-lengths = c .before .before .before .before .before .before .before .before .before .before .before .before .before .before
+    .put-lengths in
+    let put-names = c .before .before .before .before .before .before .before .before .before .before .put-names in
+    let put-marks = c .before .before .before .before .before .before .put-marks in
+    let put-counts = c .before .before .put-counts in
+    header-wrote (start .args .table .now) (start .args .at) (start .args .out .now) _ _ _ _ (start .args .w) (start .args .metric)
+    (start .args .semantics) (put-lengths .ensures) (put-names .ensures) (put-marks .ensures) (put-counts .ensures)
 
 pub put-header-spec : {M : Type 1} → statement M
 put-header-spec =

@@ -5,13 +5,34 @@ use Rattle.emitting.proofs.headers.put_marks.Statement.{statement}
 use Rattle.emitting.proofs.headers.put_marks.Tie as tie
 
 cast-put-u8 : tie.Need-cast-put-u8
-cast-put-u8 c = let a = marks-fit (c .before .before .before .before .before .before .before .before .before .before .before .before .before .before .before .before .before .before .args .table .now) (c .before .before .before .before .before .before .before .before .before .before .before .before .before .before .before .before .before .before .args .at) (c .before .before .before .before .before .before .before .before .before .before .before .before .before .before .before .before .before .before .pre .1) in omega (arith, a)
+cast-put-u8 c =
+    let start = c .before .before .before .before .before .before .before .before .before .before .before .before .before .before .before
+    .before .before .before in
+    let a = marks-fit (start .args .table .now) (start .args .at) (start .pre .1) in
+    omega (arith, a)
 
 cast-put-u32 : tie.Need-cast-put-u32
-cast-put-u32 c = let a = marks-fit (c .before .before .before .before .before .before .before .before .before .before .before .before .before .before .before .before .before .before .before .before .before .before .before .args .table .now) (c .before .before .before .before .before .before .before .before .before .before .before .before .before .before .before .before .before .before .before .before .before .before .before .args .at) (c .before .before .before .before .before .before .before .before .before .before .before .before .before .before .before .before .before .before .before .before .before .before .before .pre .1) in omega (arith, a)
+cast-put-u32 c =
+    let start = c .before .before .before .before .before .before .before .before .before .before .before .before .before .before .before
+    .before .before .before .before .before .before .before .before in
+    let a = marks-fit (start .args .table .now) (start .args .at) (start .pre .1) in
+    omega (arith, a)
 
 returns : tie.Need-returns
-returns c = marks-wrote (c .before .before .before .before .before .before .before .before .before .before .before .before .before .before .before .before .before .before .before .before .before .before .before .before .before .before .args .table .now) (c .before .before .before .before .before .before .before .before .before .before .before .before .before .before .before .before .before .before .before .before .before .before .before .before .before .before .args .at) _ _ _ _ _ _ _ _ (c .before .before .before .before .before .before .before .before .before .before .before .before .before .before .before .before .before .before .before .before .before .before .reference-bytes .ensures) (c .before .before .before .before .before .before .before .before .before .before .before .before .before .before .before .before .before .before .before .before .put-u8 .ensures) (c .before .before .before .before .before .before .before .before .before .before .before .before .before .before .before .before .put-u82 .ensures) (c .before .before .before .before .before .before .before .before .before .before .before .before .put-u83 .ensures) (c .before .before .before .before .before .before .before .put-u84 .ensures) (c .before .before .put-u32 .ensures)
+returns c =
+    let start = c .before .before .before .before .before .before .before .before .before .before .before .before .before .before .before
+    .before .before .before .before .before .before .before .before .before .before .before in
+    let reference-bytes = c .before .before .before .before .before .before .before .before .before .before .before .before .before .before
+    .before .before .before .before .before .before .before .before .reference-bytes in
+    let put-u8 = c .before .before .before .before .before .before .before .before .before .before .before .before .before .before .before
+    .before .before .before .before .before .put-u8 in
+    let put-u82 = c .before .before .before .before .before .before .before .before .before .before .before .before .before .before .before
+    .before .put-u82 in
+    let put-u83 = c .before .before .before .before .before .before .before .before .before .before .before .before .put-u83 in
+    let put-u84 = c .before .before .before .before .before .before .before .put-u84 in
+    let put-u32 = c .before .before .put-u32 in
+    marks-wrote (start .args .table .now) (start .args .at) _ _ _ _ _ _ _ _ (reference-bytes .ensures) (put-u8 .ensures) (put-u82 .ensures)
+    (put-u83 .ensures) (put-u84 .ensures) (put-u32 .ensures)
 
 pub put-marks-spec : {M : Type 1} → statement M
 put-marks-spec =

@@ -5,16 +5,31 @@ use Rattle.emitting.proofs.headers.put_names.Statement.{statement}
 use Rattle.emitting.proofs.headers.put_names.Tie as tie
 
 cast-put-u32 : tie.Need-cast-put-u32
-cast-put-u32 c = let a = names-fit (c .before .before .before .before .before .before .args .table .now) (c .before .before .before .before .before .before .args .at) (c .before .before .before .before .before .before .pre .1) in omega (arith, a)
+cast-put-u32 c =
+    let start = c .before .before .before .before .before .before in
+    let a = names-fit (start .args .table .now) (start .args .at) (start .pre .1) in
+    omega (arith, a)
 
 cast-put-u16 : tie.Need-cast-put-u16
-cast-put-u16 c = let a = names-fit (c .before .before .before .before .before .before .before .before .before .before .args .table .now) (c .before .before .before .before .before .before .before .before .before .before .args .at) (c .before .before .before .before .before .before .before .before .before .before .pre .1) in omega (arith, a)
+cast-put-u16 c =
+    let start = c .before .before .before .before .before .before .before .before .before .before in
+    let a = names-fit (start .args .table .now) (start .args .at) (start .pre .1) in
+    omega (arith, a)
 
 cast-put-u16-2 : tie.Need-cast-put-u16-2
-cast-put-u16-2 c = let a = names-fit (c .before .before .before .before .before .before .before .before .before .before .before .before .before .before .args .table .now) (c .before .before .before .before .before .before .before .before .before .before .before .before .before .before .args .at) (c .before .before .before .before .before .before .before .before .before .before .before .before .before .before .pre .1) in omega (arith, a)
+cast-put-u16-2 c =
+    let start = c .before .before .before .before .before .before .before .before .before .before .before .before .before .before in
+    let a = names-fit (start .args .table .now) (start .args .at) (start .pre .1) in
+    omega (arith, a)
 
 returns : tie.Need-returns
-returns c = names-wrote (c .before .before .before .before .before .before .before .before .before .before .before .before .before .before .before .before .before .args .table .now) (c .before .before .before .before .before .before .before .before .before .before .before .before .before .before .before .before .before .args .at) _ _ _ _ _ (c .before .before .before .before .before .before .before .before .before .before .put-u32 .ensures) (c .before .before .before .before .before .before .put-u16 .ensures) (c .before .before .put-u162 .ensures)
+returns c =
+    let start = c .before .before .before .before .before .before .before .before .before .before .before .before .before .before .before
+    .before .before in
+    let put-u32 = c .before .before .before .before .before .before .before .before .before .before .put-u32 in
+    let put-u16 = c .before .before .before .before .before .before .put-u16 in
+    let put-u162 = c .before .before .put-u162 in
+    names-wrote (start .args .table .now) (start .args .at) _ _ _ _ _ (put-u32 .ensures) (put-u16 .ensures) (put-u162 .ensures)
 
 pub put-names-spec : {M : Type 1} → statement M
 put-names-spec =

@@ -17,16 +17,31 @@ abbrev μ-loop : tie.MeasureT-loop
 μ-loop table bytes n out₀ left₀ acc₀ out left acc = left
 
 loop-holds : tie.Need-loop-holds Inv-loop μ-loop
-loop-holds c = left-start flattenItem FineItem encodeItem item-unique (c .before .before .before .args .n) (c .before .before .before .args .c) (tableOf (c .before .before .before .args .table .now) [] (c .before .before .before .args .bytes .now)) _ (c .before .before .before .pre)
+loop-holds c =
+    let start = c .before .before .before in
+    left-start flattenItem FineItem encodeItem item-unique (start .args .n) (start .args .c)
+    (tableOf (start .args .table .now) [] (start .args .bytes .now)) _ (start .pre)
 
 emit-item-requires : tie.Need-emit-item-requires Inv-loop μ-loop
-emit-item-requires c κs = left-next flattenItem FineItem encodeItem item-unique (c .before .before .before .before .before .before .args .n) (c .before .before .before .before .before .before .args .c) (tableOf (c .before .before .before .before .before .before .args .table .now) [] (c .before .before .before .before .before .before .args .bytes .now)) _ _ _ _ (c .before .before .loop .inv) (omega arith)
+emit-item-requires c κs =
+    let start = c .before .before .before .before .before .before in
+    let loop = c .before .before .loop in
+    left-next flattenItem FineItem encodeItem item-unique (start .args .n) (start .args .c)
+    (tableOf (start .args .table .now) [] (start .args .bytes .now)) _ _ _ _ (loop .inv) (omega arith)
 
 loop-again : tie.Need-loop-again Inv-loop μ-loop
-loop-again c = left-turn flattenItem FineItem encodeItem item-unique (c .before .before .before .before .before .before .before .before .before .args .n) (c .before .before .before .before .before .before .before .before .before .args .c) (tableOf (c .before .before .before .before .before .before .before .before .before .args .table .now) [] (c .before .before .before .before .before .before .before .before .before .args .bytes .now)) _ _ _ _ (c .before .before .before .before .before .loop .inv) (omega arith) _ _ (c .before .before .emit-item .ensures)
+loop-again c =
+    let start = c .before .before .before .before .before .before .before .before .before in
+    let loop = c .before .before .before .before .before .loop in
+    let emit-item = c .before .before .emit-item in
+    left-turn flattenItem FineItem encodeItem item-unique (start .args .n) (start .args .c)
+    (tableOf (start .args .table .now) [] (start .args .bytes .now)) _ _ _ _ (loop .inv) (omega arith) _ _ (emit-item .ensures)
 
 returns : tie.Need-returns Inv-loop μ-loop
-returns c = left-done flattenItem FineItem encodeItem item-unique (c .before .before .before .before .before .args .n) (c .before .before .before .before .before .args .c) (tableOf (c .before .before .before .before .before .args .table .now) [] (c .before .before .before .before .before .args .bytes .now)) _ _ _ _ (c .before .loop .inv) (omega arith)
+returns c =
+    let start = c .before .before .before .before .before in
+    left-done flattenItem FineItem encodeItem item-unique (start .args .n) (start .args .c)
+    (tableOf (start .args .table .now) [] (start .args .bytes .now)) _ _ _ _ (c .before .loop .inv) (omega arith)
 
 pub emit-items-spec : {M : Type 1} → statement M
 emit-items-spec =

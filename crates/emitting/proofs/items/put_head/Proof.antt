@@ -4,7 +4,13 @@ use Rattle.emitting.proofs.items.put_head.Statement.{statement}
 use Rattle.emitting.proofs.items.put_head.Tie as tie
 
 returns : tie.Need-returns
-returns c = head-wrote (c .before .before .before .before .before .before .before .before .before .before .before .before .before .args .out .now) _ _ _ (c .before .before .before .before .before .before .before .before .before .before .before .before .before .args .w) (c .before .before .before .before .before .before .before .before .before .before .before .before .before .args .code) (c .before .before .before .before .before .before .before .before .before .before .before .before .before .args .kind) (c .before .before .before .before .before .before .before .before .before .before .before .before .before .args .scale) (c .before .before .before .before .before .before .before .before .before .before .put-u16 .ensures) (c .before .before .before .before .before .before .put-u8 .ensures) (c .before .before .put-u82 .ensures)
+returns c =
+    let start = c .before .before .before .before .before .before .before .before .before .before .before .before .before in
+    let put-u16 = c .before .before .before .before .before .before .before .before .before .before .put-u16 in
+    let put-u8 = c .before .before .before .before .before .before .put-u8 in
+    let put-u82 = c .before .before .put-u82 in
+    head-wrote (start .args .out .now) _ _ _ (start .args .w) (start .args .code) (start .args .kind) (start .args .scale) (put-u16 .ensures)
+    (put-u8 .ensures) (put-u82 .ensures)
 
 pub put-head-spec : {M : Type 1} → statement M
 put-head-spec =

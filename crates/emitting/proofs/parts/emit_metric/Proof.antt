@@ -10,13 +10,33 @@ use Rattle.emitting.proofs.parts.emit_metric.Statement.{statement}
 use Rattle.emitting.proofs.parts.emit_metric.Tie as tie
 
 emit-part-requires : tie.Need-emit-part-requires
-emit-part-requires c κs = pair-first flattenPart (PartFits (c .before .before .before .before .before .args .s)) (partBytes (c .before .before .before .before .before .args .s)) (joined flattenPart) (Counted (c .before .before .before .before .before .args .n) (PartFits (c .before .before .before .before .before .args .s))) (flat (subobjectBytes (c .before .before .before .before .before .args .s))) (part-unique (c .before .before .before .before .before .args .s)) (list-unique flattenPart (PartFits (c .before .before .before .before .before .args .s)) (part-unique (c .before .before .before .before .before .args .s)) (c .before .before .before .before .before .args .n)) (c .before .before .before .before .before .args .c) (tableOf (c .before .before .before .before .before .args .table .now) (c .before .before .before .before .before .args .elements .now) (c .before .before .before .before .before .args .bytes .now)) (c .before .before .before .before .before .args .out .now) (c .before .before .before .before .before .pre)
+emit-part-requires c κs =
+    let start = c .before .before .before .before .before in
+    pair-first flattenPart (PartFits (start .args .s)) (partBytes (start .args .s)) (joined flattenPart)
+    (Counted (start .args .n) (PartFits (start .args .s))) (flat (subobjectBytes (start .args .s))) (part-unique (start .args .s))
+    (list-unique flattenPart (PartFits (start .args .s)) (part-unique (start .args .s)) (start .args .n)) (start .args .c)
+    (tableOf (start .args .table .now) (start .args .elements .now) (start .args .bytes .now)) (start .args .out .now) (start .pre)
 
 emit-subobjects-requires : tie.Need-emit-subobjects-requires
-emit-subobjects-requires c κs = pair-second flattenPart (PartFits (c .before .before .before .before .before .before .before .before .before .args .s)) (partBytes (c .before .before .before .before .before .before .before .before .before .args .s)) (joined flattenPart) (Counted (c .before .before .before .before .before .before .before .before .before .args .n) (PartFits (c .before .before .before .before .before .before .before .before .before .args .s))) (flat (subobjectBytes (c .before .before .before .before .before .before .before .before .before .args .s))) (part-unique (c .before .before .before .before .before .before .before .before .before .args .s)) (list-unique flattenPart (PartFits (c .before .before .before .before .before .before .before .before .before .args .s)) (part-unique (c .before .before .before .before .before .before .before .before .before .args .s)) (c .before .before .before .before .before .before .before .before .before .args .n)) (c .before .before .before .before .before .before .before .before .before .args .c) (tableOf (c .before .before .before .before .before .before .before .before .before .args .table .now) (c .before .before .before .before .before .before .before .before .before .args .elements .now) (c .before .before .before .before .before .before .before .before .before .args .bytes .now)) (c .before .before .before .before .before .before .before .before .before .args .out .now) (c .before .before .before .before .before .before .before .before .before .pre) _ _ (c .before .before .before .emit-part .ensures)
+emit-subobjects-requires c κs =
+    let start = c .before .before .before .before .before .before .before .before .before in
+    let emit-part = c .before .before .before .emit-part in
+    pair-second flattenPart (PartFits (start .args .s)) (partBytes (start .args .s)) (joined flattenPart)
+    (Counted (start .args .n) (PartFits (start .args .s))) (flat (subobjectBytes (start .args .s))) (part-unique (start .args .s))
+    (list-unique flattenPart (PartFits (start .args .s)) (part-unique (start .args .s)) (start .args .n)) (start .args .c)
+    (tableOf (start .args .table .now) (start .args .elements .now) (start .args .bytes .now)) (start .args .out .now) (start .pre) _ _
+    (emit-part .ensures)
 
 returns : tie.Need-returns
-returns c = pair-done flattenPart (PartFits (c .before .before .before .before .before .before .before .before .before .before .before .before .args .s)) (partBytes (c .before .before .before .before .before .before .before .before .before .before .before .before .args .s)) (joined flattenPart) (Counted (c .before .before .before .before .before .before .before .before .before .before .before .before .args .n) (PartFits (c .before .before .before .before .before .before .before .before .before .before .before .before .args .s))) (flat (subobjectBytes (c .before .before .before .before .before .before .before .before .before .before .before .before .args .s))) (part-unique (c .before .before .before .before .before .before .before .before .before .before .before .before .args .s)) (list-unique flattenPart (PartFits (c .before .before .before .before .before .before .before .before .before .before .before .before .args .s)) (part-unique (c .before .before .before .before .before .before .before .before .before .before .before .before .args .s)) (c .before .before .before .before .before .before .before .before .before .before .before .before .args .n)) (c .before .before .before .before .before .before .before .before .before .before .before .before .args .c) (tableOf (c .before .before .before .before .before .before .before .before .before .before .before .before .args .table .now) (c .before .before .before .before .before .before .before .before .before .before .before .before .args .elements .now) (c .before .before .before .before .before .before .before .before .before .before .before .before .args .bytes .now)) (c .before .before .before .before .before .before .before .before .before .before .before .before .args .out .now) (c .before .before .before .before .before .before .before .before .before .before .before .before .pre) _ _ (c .before .before .before .before .before .before .emit-part .ensures) _ _ (c .before .before .emit-subobjects .ensures)
+returns c =
+    let start = c .before .before .before .before .before .before .before .before .before .before .before .before in
+    let emit-part = c .before .before .before .before .before .before .emit-part in
+    let emit-subobjects = c .before .before .emit-subobjects in
+    pair-done flattenPart (PartFits (start .args .s)) (partBytes (start .args .s)) (joined flattenPart)
+    (Counted (start .args .n) (PartFits (start .args .s))) (flat (subobjectBytes (start .args .s))) (part-unique (start .args .s))
+    (list-unique flattenPart (PartFits (start .args .s)) (part-unique (start .args .s)) (start .args .n)) (start .args .c)
+    (tableOf (start .args .table .now) (start .args .elements .now) (start .args .bytes .now)) (start .args .out .now) (start .pre) _ _
+    (emit-part .ensures) _ _ (emit-subobjects .ensures)
 
 pub emit-metric-spec : {M : Type 1} → statement M
 emit-metric-spec =

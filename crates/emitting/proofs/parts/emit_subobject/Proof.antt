@@ -6,16 +6,36 @@ use Rattle.emitting.proofs.parts.emit_subobject.Statement.{statement}
 use Rattle.emitting.proofs.parts.emit_subobject.Tie as tie
 
 shared-slice-read-count : tie.Need-shared-slice-read-count
-shared-slice-read-count c = let a = part-some subobjectBytes (c .before .before .before .before .before .args .table .now) (c .before .before .before .before .before .args .elements .now) (c .before .before .before .before .before .args .bytes .now) (c .before .before .before .before .before .args .s) (c .before .before .before .before .before .args .c) _ (c .before .before .before .before .before .pre) in omega (arith, a)
+shared-slice-read-count c =
+    let start = c .before .before .before .before .before in
+    let a = part-some subobjectBytes (start .args .table .now) (start .args .elements .now) (start .args .bytes .now) (start .args .s)
+    (start .args .c) _ (start .pre) in
+    omega (arith, a)
 
 cast-n1 : tie.Need-cast-n1
-cast-n1 c = let a = part-some subobjectBytes (c .before .before .before .before .before .args .table .now) (c .before .before .before .before .before .args .elements .now) (c .before .before .before .before .before .args .bytes .now) (c .before .before .before .before .before .args .s) (c .before .before .before .before .before .args .c) _ (c .before .before .before .before .before .pre) in omega (arith, a)
+cast-n1 c =
+    let start = c .before .before .before .before .before in
+    let a = part-some subobjectBytes (start .args .table .now) (start .args .elements .now) (start .args .bytes .now) (start .args .s)
+    (start .args .c) _ (start .pre) in
+    omega (arith, a)
 
 emit-part-requires : tie.Need-emit-part-requires
-emit-part-requires c κs = subobject-ask (c .before .before .before .before .before .before .before .before .before .before .before .before .before .before .args .table .now) (c .before .before .before .before .before .before .before .before .before .before .before .before .before .before .args .elements .now) (c .before .before .before .before .before .before .before .before .before .before .before .before .before .before .args .bytes .now) (c .before .before .before .before .before .before .before .before .before .before .before .before .before .before .args .s) (c .before .before .before .before .before .before .before .before .before .before .before .before .before .before .args .c) (c .before .before .before .before .before .before .before .before .before .before .before .before .before .before .args .out .now) (c .before .before .before .before .before .before .before .before .before .before .before .before .before .before .pre) _ _ (c .before .before .before .before .before .before .before .put-u16 .ensures) (c .before .before .before .put-u162 .ensures)
+emit-part-requires c κs =
+    let start = c .before .before .before .before .before .before .before .before .before .before .before .before .before .before in
+    let put-u16 = c .before .before .before .before .before .before .before .put-u16 in
+    let put-u162 = c .before .before .before .put-u162 in
+    subobject-ask (start .args .table .now) (start .args .elements .now) (start .args .bytes .now) (start .args .s) (start .args .c)
+    (start .args .out .now) (start .pre) _ _ (put-u16 .ensures) (put-u162 .ensures)
 
 returns : tie.Need-returns
-returns c = subobject-did (c .before .before .before .before .before .before .before .before .before .before .before .before .before .before .before .before .before .args .table .now) (c .before .before .before .before .before .before .before .before .before .before .before .before .before .before .before .before .before .args .elements .now) (c .before .before .before .before .before .before .before .before .before .before .before .before .before .before .before .before .before .args .bytes .now) (c .before .before .before .before .before .before .before .before .before .before .before .before .before .before .before .before .before .args .s) (c .before .before .before .before .before .before .before .before .before .before .before .before .before .before .before .before .before .args .c) (c .before .before .before .before .before .before .before .before .before .before .before .before .before .before .before .before .before .args .out .now) (c .before .before .before .before .before .before .before .before .before .before .before .before .before .before .before .before .before .pre) _ _ (c .before .before .before .before .before .before .before .before .before .before .put-u16 .ensures) (c .before .before .before .before .before .before .put-u162 .ensures) _ _ (c .before .before .emit-part .ensures)
+returns c =
+    let start = c .before .before .before .before .before .before .before .before .before .before .before .before .before .before .before
+    .before .before in
+    let put-u16 = c .before .before .before .before .before .before .before .before .before .before .put-u16 in
+    let put-u162 = c .before .before .before .before .before .before .put-u162 in
+    let emit-part = c .before .before .emit-part in
+    subobject-did (start .args .table .now) (start .args .elements .now) (start .args .bytes .now) (start .args .s) (start .args .c)
+    (start .args .out .now) (start .pre) _ _ (put-u16 .ensures) (put-u162 .ensures) _ _ (emit-part .ensures)
 
 pub emit-subobject-spec : {M : Type 1} → statement M
 emit-subobject-spec =

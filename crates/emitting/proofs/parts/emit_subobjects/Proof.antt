@@ -15,16 +15,34 @@ abbrev μ-loop : tie.MeasureT-loop
 μ-loop table elements bytes s n out₀ left₀ acc₀ out left acc = left
 
 loop-holds : tie.Need-loop-holds Inv-loop μ-loop
-loop-holds c = left-start flattenPart (PartFits (c .before .before .before .before .args .s)) (subobjectBytes (c .before .before .before .before .args .s)) (part-unique (c .before .before .before .before .args .s)) (c .before .before .before .before .args .n) (c .before .before .before .before .args .c) (tableOf (c .before .before .before .before .args .table .now) (c .before .before .before .before .args .elements .now) (c .before .before .before .before .args .bytes .now)) _ (c .before .before .before .before .pre)
+loop-holds c =
+    let start = c .before .before .before .before in
+    left-start flattenPart (PartFits (start .args .s)) (subobjectBytes (start .args .s)) (part-unique (start .args .s)) (start .args .n)
+    (start .args .c) (tableOf (start .args .table .now) (start .args .elements .now) (start .args .bytes .now)) _ (start .pre)
 
 emit-subobject-requires : tie.Need-emit-subobject-requires Inv-loop μ-loop
-emit-subobject-requires c κs = left-next flattenPart (PartFits (c .before .before .before .before .before .before .before .args .s)) (subobjectBytes (c .before .before .before .before .before .before .before .args .s)) (part-unique (c .before .before .before .before .before .before .before .args .s)) (c .before .before .before .before .before .before .before .args .n) (c .before .before .before .before .before .before .before .args .c) (tableOf (c .before .before .before .before .before .before .before .args .table .now) (c .before .before .before .before .before .before .before .args .elements .now) (c .before .before .before .before .before .before .before .args .bytes .now)) _ _ _ _ (c .before .before .loop .inv) (omega arith)
+emit-subobject-requires c κs =
+    let start = c .before .before .before .before .before .before .before in
+    let loop = c .before .before .loop in
+    left-next flattenPart (PartFits (start .args .s)) (subobjectBytes (start .args .s)) (part-unique (start .args .s)) (start .args .n)
+    (start .args .c) (tableOf (start .args .table .now) (start .args .elements .now) (start .args .bytes .now)) _ _ _ _ (loop .inv)
+    (omega arith)
 
 loop-again : tie.Need-loop-again Inv-loop μ-loop
-loop-again c = left-turn flattenPart (PartFits (c .before .before .before .before .before .before .before .before .before .before .args .s)) (subobjectBytes (c .before .before .before .before .before .before .before .before .before .before .args .s)) (part-unique (c .before .before .before .before .before .before .before .before .before .before .args .s)) (c .before .before .before .before .before .before .before .before .before .before .args .n) (c .before .before .before .before .before .before .before .before .before .before .args .c) (tableOf (c .before .before .before .before .before .before .before .before .before .before .args .table .now) (c .before .before .before .before .before .before .before .before .before .before .args .elements .now) (c .before .before .before .before .before .before .before .before .before .before .args .bytes .now)) _ _ _ _ (c .before .before .before .before .before .loop .inv) (omega arith) _ _ (c .before .before .emit-subobject .ensures)
+loop-again c =
+    let start = c .before .before .before .before .before .before .before .before .before .before in
+    let loop = c .before .before .before .before .before .loop in
+    let emit-subobject = c .before .before .emit-subobject in
+    left-turn flattenPart (PartFits (start .args .s)) (subobjectBytes (start .args .s)) (part-unique (start .args .s)) (start .args .n)
+    (start .args .c) (tableOf (start .args .table .now) (start .args .elements .now) (start .args .bytes .now)) _ _ _ _ (loop .inv)
+    (omega arith) _ _ (emit-subobject .ensures)
 
 returns : tie.Need-returns Inv-loop μ-loop
-returns c = left-done flattenPart (PartFits (c .before .before .before .before .before .before .args .s)) (subobjectBytes (c .before .before .before .before .before .before .args .s)) (part-unique (c .before .before .before .before .before .before .args .s)) (c .before .before .before .before .before .before .args .n) (c .before .before .before .before .before .before .args .c) (tableOf (c .before .before .before .before .before .before .args .table .now) (c .before .before .before .before .before .before .args .elements .now) (c .before .before .before .before .before .before .args .bytes .now)) _ _ _ _ (c .before .loop .inv) (omega arith)
+returns c =
+    let start = c .before .before .before .before .before .before in
+    left-done flattenPart (PartFits (start .args .s)) (subobjectBytes (start .args .s)) (part-unique (start .args .s)) (start .args .n)
+    (start .args .c) (tableOf (start .args .table .now) (start .args .elements .now) (start .args .bytes .now)) _ _ _ _ (c .before .loop .inv)
+    (omega arith)
 
 pub emit-subobjects-spec : {M : Type 1} → statement M
 emit-subobjects-spec =

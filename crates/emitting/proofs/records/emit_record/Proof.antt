@@ -5,34 +5,99 @@ use Rattle.emitting.proofs.records.emit_record.Statement.{statement}
 use Rattle.emitting.proofs.records.emit_record.Tie as tie
 
 shape-at-requires : tie.Need-shape-at-requires
-shape-at-requires c κs = let a = record-some (c .before .before .before .before .before .args .table .now) (c .before .before .before .before .before .args .elements .now) (c .before .before .before .before .before .args .bytes .now) (c .before .before .before .before .before .args .c) (c .before .before .before .before .before .args .out .now) (c .before .before .before .before .before .pre) in omega (arith, a)
+shape-at-requires c κs =
+    let start = c .before .before .before .before .before in
+    let a = record-some (start .args .table .now) (start .args .elements .now) (start .args .bytes .now) (start .args .c)
+    (start .args .out .now) (start .pre) in
+    omega (arith, a)
 
 shared-slice-read-later : tie.Need-shared-slice-read-later
-shared-slice-read-later c = let a = record-some (c .before .before .before .before .before .before .before .args .table .now) (c .before .before .before .before .before .before .before .args .elements .now) (c .before .before .before .before .before .before .before .args .bytes .now) (c .before .before .before .before .before .before .before .args .c) (c .before .before .before .before .before .before .before .args .out .now) (c .before .before .before .before .before .before .before .pre) in omega (arith, a)
+shared-slice-read-later c =
+    let start = c .before .before .before .before .before .before .before in
+    let a = record-some (start .args .table .now) (start .args .elements .now) (start .args .bytes .now) (start .args .c)
+    (start .args .out .now) (start .pre) in
+    omega (arith, a)
 
 sub-later : tie.Need-sub-later
-sub-later c = let a = record-parts (c .before .before .before .before .before .before .before .args .table .now) (c .before .before .before .before .before .before .before .args .elements .now) (c .before .before .before .before .before .before .before .args .bytes .now) (c .before .before .before .before .before .before .before .args .c) (c .before .before .before .before .before .before .before .args .out .now) (c .before .before .before .before .before .before .before .pre) in omega (arith, a)
+sub-later c =
+    let start = c .before .before .before .before .before .before .before in
+    let a = record-parts (start .args .table .now) (start .args .elements .now) (start .args .bytes .now) (start .args .c)
+    (start .args .out .now) (start .pre) in
+    omega (arith, a)
 
 shared-slice-read-n : tie.Need-shared-slice-read-n
-shared-slice-read-n c = let a = record-some (c .before .before .before .before .before .before .before .before .args .table .now) (c .before .before .before .before .before .before .before .before .args .elements .now) (c .before .before .before .before .before .before .before .before .args .bytes .now) (c .before .before .before .before .before .before .before .before .args .c) (c .before .before .before .before .before .before .before .before .args .out .now) (c .before .before .before .before .before .before .before .before .pre) in omega (arith, a)
+shared-slice-read-n c =
+    let start = c .before .before .before .before .before .before .before .before in
+    let a = record-some (start .args .table .now) (start .args .elements .now) (start .args .bytes .now) (start .args .c)
+    (start .args .out .now) (start .pre) in
+    omega (arith, a)
 
 emit-metric-requires : tie.Need-emit-metric-requires
-emit-metric-requires c κs = metric-ask (c .before .before .before .before .before .before .before .before .before .args .table .now) (c .before .before .before .before .before .before .before .before .before .args .elements .now) (c .before .before .before .before .before .before .before .before .before .args .bytes .now) (c .before .before .before .before .before .before .before .before .before .args .c) (c .before .before .before .before .before .before .before .before .before .args .out .now) (c .before .before .before .before .before .before .before .before .before .pre) _ (c .before .before .before .shape-at .ensures)
+emit-metric-requires c κs =
+    let start = c .before .before .before .before .before .before .before .before .before in
+    let shape-at = c .before .before .before .shape-at in
+    metric-ask (start .args .table .now) (start .args .elements .now) (start .args .bytes .now) (start .args .c) (start .args .out .now)
+    (start .pre) _ (shape-at .ensures)
 
 emit-items-requires : tie.Need-emit-items-requires
-emit-items-requires c κs = items-ask (c .before .before .before .before .before .before .before .before .before .before .before .before .before .args .table .now) (c .before .before .before .before .before .before .before .before .before .before .before .before .before .args .elements .now) (c .before .before .before .before .before .before .before .before .before .before .before .before .before .args .bytes .now) (c .before .before .before .before .before .before .before .before .before .before .before .before .before .args .c) (c .before .before .before .before .before .before .before .before .before .before .before .before .before .args .out .now) (c .before .before .before .before .before .before .before .before .before .before .before .before .before .pre) _ (c .before .before .before .before .before .before .before .shape-at .ensures) _ _ (c .before .before .before .emit-metric .ensures)
+emit-items-requires c κs =
+    let start = c .before .before .before .before .before .before .before .before .before .before .before .before .before in
+    let shape-at = c .before .before .before .before .before .before .before .shape-at in
+    let emit-metric = c .before .before .before .emit-metric in
+    items-ask (start .args .table .now) (start .args .elements .now) (start .args .bytes .now) (start .args .c) (start .args .out .now)
+    (start .pre) _ (shape-at .ensures) _ _ (emit-metric .ensures)
 
 sub-put-header : tie.Need-sub-put-header
-sub-put-header c = let a = record-lengths (c .before .before .before .before .before .before .before .before .before .before .before .before .before .before .before .before .before .args .table .now) (c .before .before .before .before .before .before .before .before .before .before .before .before .before .before .before .before .before .args .elements .now) (c .before .before .before .before .before .before .before .before .before .before .before .before .before .before .before .before .before .args .bytes .now) (c .before .before .before .before .before .before .before .before .before .before .before .before .before .before .before .before .before .args .c) (c .before .before .before .before .before .before .before .before .before .before .before .before .before .before .before .before .before .args .out .now) (c .before .before .before .before .before .before .before .before .before .before .before .before .before .before .before .before .before .pre) _ (c .before .before .before .before .before .before .before .before .before .before .before .shape-at .ensures) _ _ (c .before .before .before .before .before .before .before .emit-metric .ensures) _ _ (c .before .before .before .emit-items .ensures) in omega (arith, a)
+sub-put-header c =
+    let start = c .before .before .before .before .before .before .before .before .before .before .before .before .before .before .before
+    .before .before in
+    let shape-at = c .before .before .before .before .before .before .before .before .before .before .before .shape-at in
+    let emit-metric = c .before .before .before .before .before .before .before .emit-metric in
+    let emit-items = c .before .before .before .emit-items in
+    let a = record-lengths (start .args .table .now) (start .args .elements .now) (start .args .bytes .now) (start .args .c)
+    (start .args .out .now) (start .pre) _ (shape-at .ensures) _ _ (emit-metric .ensures) _ _ (emit-items .ensures) in
+    omega (arith, a)
 
 sub-put-header-2 : tie.Need-sub-put-header-2
-sub-put-header-2 c = let a = record-lengths (c .before .before .before .before .before .before .before .before .before .before .before .before .before .before .before .before .before .before .before .args .table .now) (c .before .before .before .before .before .before .before .before .before .before .before .before .before .before .before .before .before .before .before .args .elements .now) (c .before .before .before .before .before .before .before .before .before .before .before .before .before .before .before .before .before .before .before .args .bytes .now) (c .before .before .before .before .before .before .before .before .before .before .before .before .before .before .before .before .before .before .before .args .c) (c .before .before .before .before .before .before .before .before .before .before .before .before .before .before .before .before .before .before .before .args .out .now) (c .before .before .before .before .before .before .before .before .before .before .before .before .before .before .before .before .before .before .before .pre) _ (c .before .before .before .before .before .before .before .before .before .before .before .before .before .shape-at .ensures) _ _ (c .before .before .before .before .before .before .before .before .before .emit-metric .ensures) _ _ (c .before .before .before .before .before .emit-items .ensures) in omega (arith, a)
+sub-put-header-2 c =
+    let start = c .before .before .before .before .before .before .before .before .before .before .before .before .before .before .before
+    .before .before .before .before in
+    let shape-at = c .before .before .before .before .before .before .before .before .before .before .before .before .before .shape-at in
+    let emit-metric = c .before .before .before .before .before .before .before .before .before .emit-metric in
+    let emit-items = c .before .before .before .before .before .emit-items in
+    let a = record-lengths (start .args .table .now) (start .args .elements .now) (start .args .bytes .now) (start .args .c)
+    (start .args .out .now) (start .pre) _ (shape-at .ensures) _ _ (emit-metric .ensures) _ _ (emit-items .ensures) in
+    omega (arith, a)
 
 put-header-requires : tie.Need-put-header-requires
-put-header-requires c κs = let a = record-some (c .before .before .before .before .before .before .before .before .before .before .before .before .before .before .before .before .before .before .before .before .args .table .now) (c .before .before .before .before .before .before .before .before .before .before .before .before .before .before .before .before .before .before .before .before .args .elements .now) (c .before .before .before .before .before .before .before .before .before .before .before .before .before .before .before .before .before .before .before .before .args .bytes .now) (c .before .before .before .before .before .before .before .before .before .before .before .before .before .before .before .before .before .before .before .before .args .c) (c .before .before .before .before .before .before .before .before .before .before .before .before .before .before .before .before .before .before .before .before .args .out .now) (c .before .before .before .before .before .before .before .before .before .before .before .before .before .before .before .before .before .before .before .before .pre) in let b = header-asks (c .before .before .before .before .before .before .before .before .before .before .before .before .before .before .before .before .before .before .before .before .args .table .now) (c .before .before .before .before .before .before .before .before .before .before .before .before .before .before .before .before .before .before .before .before .args .elements .now) (c .before .before .before .before .before .before .before .before .before .before .before .before .before .before .before .before .before .before .before .before .args .bytes .now) (c .before .before .before .before .before .before .before .before .before .before .before .before .before .before .before .before .before .before .before .before .args .c) (c .before .before .before .before .before .before .before .before .before .before .before .before .before .before .before .before .before .before .before .before .args .out .now) (c .before .before .before .before .before .before .before .before .before .before .before .before .before .before .before .before .before .before .before .before .pre) _ (c .before .before .before .before .before .before .before .before .before .before .before .before .before .before .shape-at .ensures) _ _ (c .before .before .before .before .before .before .before .before .before .before .emit-metric .ensures) _ _ (c .before .before .before .before .before .before .emit-items .ensures) in (omega (arith, a), row-fits (c .before .before .before .before .before .before .before .before .before .before .before .before .before .before .before .before .before .before .before .before .args .table .now) (c .before .before .before .before .before .before .before .before .before .before .before .before .before .before .before .before .before .before .before .before .args .elements .now) (c .before .before .before .before .before .before .before .before .before .before .before .before .before .before .before .before .before .before .before .before .args .bytes .now) (c .before .before .before .before .before .before .before .before .before .before .before .before .before .before .before .before .before .before .before .before .args .c) (c .before .before .before .before .before .before .before .before .before .before .before .before .before .before .before .before .before .before .before .before .args .out .now) (c .before .before .before .before .before .before .before .before .before .before .before .before .before .before .before .before .before .before .before .before .pre), b .0, b .1)
+put-header-requires c κs =
+    let start = c .before .before .before .before .before .before .before .before .before .before .before .before .before .before .before
+    .before .before .before .before .before in
+    let shape-at = c .before .before .before .before .before .before .before .before .before .before .before .before .before .before .shape-at in
+    let emit-metric = c .before .before .before .before .before .before .before .before .before .before .emit-metric in
+    let emit-items = c .before .before .before .before .before .before .emit-items in
+    let a = record-some (start .args .table .now) (start .args .elements .now) (start .args .bytes .now) (start .args .c)
+    (start .args .out .now) (start .pre) in
+    let b = header-asks (start .args .table .now) (start .args .elements .now) (start .args .bytes .now) (start .args .c)
+    (start .args .out .now) (start .pre) _ (shape-at .ensures) _ _ (emit-metric .ensures) _ _ (emit-items .ensures) in (
+      omega (arith, a),
+      row-fits (start .args .table .now) (start .args .elements .now) (start .args .bytes .now) (start .args .c) (start .args .out .now)
+          (start .pre),
+      b .0,
+      b .1,
+    )
 
 returns : tie.Need-returns
-returns c = record-did (c .before .before .before .before .before .before .before .before .before .before .before .before .before .before .before .before .before .before .before .before .before .before .before .args .table .now) (c .before .before .before .before .before .before .before .before .before .before .before .before .before .before .before .before .before .before .before .before .before .before .before .args .elements .now) (c .before .before .before .before .before .before .before .before .before .before .before .before .before .before .before .before .before .before .before .before .before .before .before .args .bytes .now) (c .before .before .before .before .before .before .before .before .before .before .before .before .before .before .before .before .before .before .before .before .before .before .before .args .c) (c .before .before .before .before .before .before .before .before .before .before .before .before .before .before .before .before .before .before .before .before .before .before .before .args .out .now) (c .before .before .before .before .before .before .before .before .before .before .before .before .before .before .before .before .before .before .before .before .before .before .before .pre) _ (c .before .before .before .before .before .before .before .before .before .before .before .before .before .before .before .before .before .shape-at .ensures) _ _ (c .before .before .before .before .before .before .before .before .before .before .before .before .before .emit-metric .ensures) _ _ (c .before .before .before .before .before .before .before .before .before .emit-items .ensures) _ (c .before .before .put-header .ensures)
+returns c =
+    let start = c .before .before .before .before .before .before .before .before .before .before .before .before .before .before .before
+    .before .before .before .before .before .before .before .before in
+    let shape-at = c .before .before .before .before .before .before .before .before .before .before .before .before .before .before .before
+    .before .before .shape-at in
+    let emit-metric = c .before .before .before .before .before .before .before .before .before .before .before .before .before .emit-metric in
+    let emit-items = c .before .before .before .before .before .before .before .before .before .emit-items in
+    let put-header = c .before .before .put-header in
+    record-did (start .args .table .now) (start .args .elements .now) (start .args .bytes .now) (start .args .c) (start .args .out .now)
+    (start .pre) _ (shape-at .ensures) _ _ (emit-metric .ensures) _ _ (emit-items .ensures) _ (put-header .ensures)
 
 pub emit-record-spec : {M : Type 1} → statement M
 emit-record-spec =

@@ -16,16 +16,32 @@ abbrev μ-loop : tie.MeasureT-loop
 μ-loop table elements bytes n out₀ left₀ acc₀ out left acc = left
 
 loop-holds : tie.Need-loop-holds Inv-loop μ-loop
-loop-holds c = left-start flattenRecord FineRecord encodeRecord record-unique (c .before .before .before .before .args .n) (c .before .before .before .before .args .c) (tableOf (c .before .before .before .before .args .table .now) (c .before .before .before .before .args .elements .now) (c .before .before .before .before .args .bytes .now)) _ (c .before .before .before .before .pre)
+loop-holds c =
+    let start = c .before .before .before .before in
+    left-start flattenRecord FineRecord encodeRecord record-unique (start .args .n) (start .args .c)
+    (tableOf (start .args .table .now) (start .args .elements .now) (start .args .bytes .now)) _ (start .pre)
 
 emit-record-requires : tie.Need-emit-record-requires Inv-loop μ-loop
-emit-record-requires c κs = left-next flattenRecord FineRecord encodeRecord record-unique (c .before .before .before .before .before .before .before .args .n) (c .before .before .before .before .before .before .before .args .c) (tableOf (c .before .before .before .before .before .before .before .args .table .now) (c .before .before .before .before .before .before .before .args .elements .now) (c .before .before .before .before .before .before .before .args .bytes .now)) _ _ _ _ (c .before .before .loop .inv) (omega arith)
+emit-record-requires c κs =
+    let start = c .before .before .before .before .before .before .before in
+    let loop = c .before .before .loop in
+    left-next flattenRecord FineRecord encodeRecord record-unique (start .args .n) (start .args .c)
+    (tableOf (start .args .table .now) (start .args .elements .now) (start .args .bytes .now)) _ _ _ _ (loop .inv) (omega arith)
 
 loop-again : tie.Need-loop-again Inv-loop μ-loop
-loop-again c = left-turn flattenRecord FineRecord encodeRecord record-unique (c .before .before .before .before .before .before .before .before .before .before .args .n) (c .before .before .before .before .before .before .before .before .before .before .args .c) (tableOf (c .before .before .before .before .before .before .before .before .before .before .args .table .now) (c .before .before .before .before .before .before .before .before .before .before .args .elements .now) (c .before .before .before .before .before .before .before .before .before .before .args .bytes .now)) _ _ _ _ (c .before .before .before .before .before .loop .inv) (omega arith) _ _ (c .before .before .emit-record .ensures)
+loop-again c =
+    let start = c .before .before .before .before .before .before .before .before .before .before in
+    let loop = c .before .before .before .before .before .loop in
+    let emit-record = c .before .before .emit-record in
+    left-turn flattenRecord FineRecord encodeRecord record-unique (start .args .n) (start .args .c)
+    (tableOf (start .args .table .now) (start .args .elements .now) (start .args .bytes .now)) _ _ _ _ (loop .inv) (omega arith) _ _
+    (emit-record .ensures)
 
 returns : tie.Need-returns Inv-loop μ-loop
-returns c = left-done flattenRecord FineRecord encodeRecord record-unique (c .before .before .before .before .before .before .args .n) (c .before .before .before .before .before .before .args .c) (tableOf (c .before .before .before .before .before .before .args .table .now) (c .before .before .before .before .before .before .args .elements .now) (c .before .before .before .before .before .before .args .bytes .now)) _ _ _ _ (c .before .loop .inv) (omega arith)
+returns c =
+    let start = c .before .before .before .before .before .before in
+    left-done flattenRecord FineRecord encodeRecord record-unique (start .args .n) (start .args .c)
+    (tableOf (start .args .table .now) (start .args .elements .now) (start .args .bytes .now)) _ _ _ _ (c .before .loop .inv) (omega arith)
 
 pub emit-records-spec : {M : Type 1} → statement M
 emit-records-spec =

@@ -7,7 +7,9 @@ use Rattle.emitting.proofs.records.shape_at.Statement.{statement}
 use Rattle.emitting.proofs.records.shape_at.Tie as tie
 
 returns : tie.Need-returns
-returns c = c .shape-in .ensures ∙ ap (λ n. shapeOf (referenceOf n)) (nth-at (c .before .before .before .args .table .now) (c .before .before .before .args .at) 3)
+returns c =
+    let start = c .before .before .before in
+    c .shape-in .ensures ∙ ap (λ n. shapeOf (referenceOf n)) (nth-at (start .args .table .now) (start .args .at) 3)
 
 pub shape-at-spec : {M : Type 1} → statement M
 shape-at-spec =

@@ -4,10 +4,17 @@ use Rattle.emitting.proofs.rows.emit_rows.Statement.{statement}
 use Rattle.emitting.proofs.rows.emit_rows.Tie as tie
 
 emit-records-requires : tie.Need-emit-records-requires
-emit-records-requires c κs = rows-ask (c .before .before .before .before .before .args .table .now) (c .before .before .before .before .before .args .elements .now) (c .before .before .before .before .before .args .bytes .now) (c .before .before .before .before .before .args .records) (c .before .before .before .before .before .args .w) (c .before .before .before .before .before .args .out .now) (c .before .before .before .before .before .pre)
+emit-records-requires c κs =
+    let start = c .before .before .before .before .before in
+    rows-ask (start .args .table .now) (start .args .elements .now) (start .args .bytes .now) (start .args .records) (start .args .w)
+    (start .args .out .now) (start .pre)
 
 returns : tie.Need-returns
-returns c = rows-did (c .before .before .before .before .before .before .before .before .args .table .now) (c .before .before .before .before .before .before .before .before .args .elements .now) (c .before .before .before .before .before .before .before .before .args .bytes .now) (c .before .before .before .before .before .before .before .before .args .records) (c .before .before .before .before .before .before .before .before .args .w) (c .before .before .before .before .before .before .before .before .args .out .now) (c .before .before .before .before .before .before .before .before .pre) _ _ (c .before .before .emit-records .ensures)
+returns c =
+    let start = c .before .before .before .before .before .before .before .before in
+    let emit-records = c .before .before .emit-records in
+    rows-did (start .args .table .now) (start .args .elements .now) (start .args .bytes .now) (start .args .records) (start .args .w)
+    (start .args .out .now) (start .pre) _ _ (emit-records .ensures)
 
 pub emit-rows-spec : {M : Type 1} → statement M
 emit-rows-spec = tie.close (tie.spec emit-records-requires (λ c. search needs) returns)
