@@ -10,73 +10,120 @@ use Rattle.writing.proofs.sheets.measure.Tie as tie
 
 returns : tie.Need-returns
 returns c =
-    let date = now (c .before .before .before .before .before .before .before .before .before .before .before .before .before .before .before .before .before .before .args .date) in
-    let designation = now (c .before .before .before .before .before .before .before .before .before .before .before .before .before .before .before .before .before .before .args .designation) in
-    let title = now (c .before .before .before .before .before .before .before .before .before .before .before .before .before .before .before .before .before .before .args .title) in
-    let rest = now (c .before .before .before .before .before .before .before .before .before .before .before .before .before .before .before .before .before .before .args .rest) in
-    let designation2 = now (c .before .before .before .before .before .before .before .before .before .before .before .before .before .before .before .before .before .before .args .designation2) in
-    let carried = now (c .before .before .before .before .before .before .before .before .before .before .before .before .before .before .before .before .before .before .args .carried) in
-    let t = table (now (c .before .before .before .before .before .before .before .before .before .before .before .before .before .before .before .before .before .before .args .table)) (now (c .before .before .before .before .before .before .before .before .before .before .before .before .before .before .before .before .before .before .args .elements)) (now (c .before .before .before .before .before .before .before .before .before .before .before .before .before .before .before .before .before .before .args .bytes)) in
+    let start = c .before .before .before .before .before .before .before .before .before .before .before .before .before .before .before
+    .before .before .before in
+    let shared-slice-known = c .before .before .before .before .before .before .before .before .before .before .before .before .before .before
+    .before .before .before .shared-slice-known in
+    let shared-slice-known2 = c .before .before .before .before .before .before .before .before .before .before .before .before .before .before
+    .before .before .shared-slice-known2 in
+    let shared-slice-known3 = c .before .before .before .before .before .before .before .before .before .before .before .before .before .before
+    .before .shared-slice-known3 in
+    let shared-slice-known4 = c .before .before .before .before .before .before .before .before .before .before .before .before .before .before
+    .shared-slice-known4 in
+    let shared-slice-known5 = c .before .before .before .before .before .before .before .before .before .before .before .before .before
+    .shared-slice-known5 in
+    let shared-slice-known6 = c .before .before .before .before .before .before .before .before .before .before .before .before
+    .shared-slice-known6 in
+    let shared-slice-known9 = c .before .before .before .before .before .before .before .before .before .shared-slice-known9 in
+    let check-head = c .before .before .before .before .before .before .before .before .check-head in
+    let enum-told = c .before .before .before .before .before .before .enum-told in
+    let take-table = c .before .before .before .before .before .take-table in
+    let the-t = c .before .before .before .t in
+    let date = now (start .args .date) in
+    let designation = now (start .args .designation) in
+    let title = now (start .args .title) in
+    let rest = now (start .args .rest) in
+    let designation2 = now (start .args .designation2) in
+    let carried = now (start .args .carried) in
+    let t = table (now (start .args .table)) (now (start .args .elements)) (now (start .args .bytes)) in
     λ scale within.
     let h = headOf date designation scale title rest designation2 carried in
     let typed = typed-head date designation scale title rest designation2 carried
-    (all-bytes date (λ i. omega (arith, c .before .before .before .before .before .before .before .before .before .before .before .before .before .before .before .before .before .shared-slice-known .given i)))
-    (all-bytes designation (λ i. omega (arith, c .before .before .before .before .before .before .before .before .before .before .before .before .before .before .before .before .shared-slice-known2 .given i)))
+    (all-bytes date (λ i. omega (arith, shared-slice-known .given i)))
+    (all-bytes designation (λ i. omega (arith, shared-slice-known2 .given i)))
     within
-    (all-bytes title (λ i. omega (arith, c .before .before .before .before .before .before .before .before .before .before .before .before .before .before .before .shared-slice-known3 .given i)))
-    (c .before .before .before .before .before .before .before .before .before .before .before .before .before .before .before .before .before .before .pre .0, all-bytes rest (λ i. omega (arith, c .before .before .before .before .before .before .before .before .before .before .before .before .before .before .shared-slice-known4 .given i)))
-    (all-bytes designation2 (λ i. omega (arith, c .before .before .before .before .before .before .before .before .before .before .before .before .before .shared-slice-known5 .given i)))
-    (c .before .before .before .before .before .before .before .before .before .before .before .before .before .before .before .before .before .before .pre .1, all-bytes carried (λ i. omega (arith, c .before .before .before .before .before .before .before .before .before .before .before .before .shared-slice-known6 .given i))) in
-    let bs = all-bytes (now (c .before .before .before .before .before .before .before .before .before .before .before .before .before .before .before .before .before .before .args .bytes)) (λ i. omega (arith, c .before .before .before .before .before .before .before .before .before .shared-slice-known9 .given i)) in
-    too-long (c .before .before .before .before .before .before .before .before .before .before .before .before .before .before .before .before .before .before .args .year) h t (c .before .before .before .before .before .before .before .before .check-head .result) (c .before .before .before .before .before .before .before .before .check-head .ensures scale) (c .before .before .before .before .before .before .enum-told .given .1) (c .before .before .before .before .before .take-table .result) (c .before .before .before .before .before .take-table .ensures) typed bs _ (c .before .before .before .t .given .1) (c .if1 .taken)
+    (all-bytes title (λ i. omega (arith, shared-slice-known3 .given i)))
+    (start .pre .0, all-bytes rest (λ i. omega (arith, shared-slice-known4 .given i)))
+    (all-bytes designation2 (λ i. omega (arith, shared-slice-known5 .given i)))
+    (start .pre .1, all-bytes carried (λ i. omega (arith, shared-slice-known6 .given i))) in
+    let bs = all-bytes (now (start .args .bytes)) (λ i. omega (arith, shared-slice-known9 .given i)) in
+    too-long (start .args .year) h t (check-head .result) (check-head .ensures scale) (enum-told .given .1) (take-table .result)
+    (take-table .ensures) typed bs _ (the-t .given .1) (c .if1 .taken)
 
 returns-2 : tie.Need-returns-2
 returns-2 c =
-    let date = now (c .before .before .before .before .before .before .before .before .before .before .before .before .before .before .before .before .before .before .args .date) in
-    let designation = now (c .before .before .before .before .before .before .before .before .before .before .before .before .before .before .before .before .before .before .args .designation) in
-    let title = now (c .before .before .before .before .before .before .before .before .before .before .before .before .before .before .before .before .before .before .args .title) in
-    let rest = now (c .before .before .before .before .before .before .before .before .before .before .before .before .before .before .before .before .before .before .args .rest) in
-    let designation2 = now (c .before .before .before .before .before .before .before .before .before .before .before .before .before .before .before .before .before .before .args .designation2) in
-    let carried = now (c .before .before .before .before .before .before .before .before .before .before .before .before .before .before .before .before .before .before .args .carried) in
-    let t = table (now (c .before .before .before .before .before .before .before .before .before .before .before .before .before .before .before .before .before .before .args .table)) (now (c .before .before .before .before .before .before .before .before .before .before .before .before .before .before .before .before .before .before .args .elements)) (now (c .before .before .before .before .before .before .before .before .before .before .before .before .before .before .before .before .before .before .args .bytes)) in
+    let start = c .before .before .before .before .before .before .before .before .before .before .before .before .before .before .before
+    .before .before .before in
+    let shared-slice-known = c .before .before .before .before .before .before .before .before .before .before .before .before .before .before
+    .before .before .before .shared-slice-known in
+    let shared-slice-known2 = c .before .before .before .before .before .before .before .before .before .before .before .before .before .before
+    .before .before .shared-slice-known2 in
+    let shared-slice-known3 = c .before .before .before .before .before .before .before .before .before .before .before .before .before .before
+    .before .shared-slice-known3 in
+    let shared-slice-known4 = c .before .before .before .before .before .before .before .before .before .before .before .before .before .before
+    .shared-slice-known4 in
+    let shared-slice-known5 = c .before .before .before .before .before .before .before .before .before .before .before .before .before
+    .shared-slice-known5 in
+    let shared-slice-known6 = c .before .before .before .before .before .before .before .before .before .before .before .before
+    .shared-slice-known6 in
+    let shared-slice-known9 = c .before .before .before .before .before .before .before .before .before .shared-slice-known9 in
+    let check-head = c .before .before .before .before .before .before .before .before .check-head in
+    let enum-told = c .before .before .before .before .before .before .enum-told in
+    let take-table = c .before .before .before .before .before .take-table in
+    let the-t = c .before .before .before .t in
+    let date = now (start .args .date) in
+    let designation = now (start .args .designation) in
+    let title = now (start .args .title) in
+    let rest = now (start .args .rest) in
+    let designation2 = now (start .args .designation2) in
+    let carried = now (start .args .carried) in
+    let t = table (now (start .args .table)) (now (start .args .elements)) (now (start .args .bytes)) in
     λ scale within.
     let h = headOf date designation scale title rest designation2 carried in
     let typed = typed-head date designation scale title rest designation2 carried
-    (all-bytes date (λ i. omega (arith, c .before .before .before .before .before .before .before .before .before .before .before .before .before .before .before .before .before .shared-slice-known .given i)))
-    (all-bytes designation (λ i. omega (arith, c .before .before .before .before .before .before .before .before .before .before .before .before .before .before .before .before .shared-slice-known2 .given i)))
+    (all-bytes date (λ i. omega (arith, shared-slice-known .given i)))
+    (all-bytes designation (λ i. omega (arith, shared-slice-known2 .given i)))
     within
-    (all-bytes title (λ i. omega (arith, c .before .before .before .before .before .before .before .before .before .before .before .before .before .before .before .shared-slice-known3 .given i)))
-    (c .before .before .before .before .before .before .before .before .before .before .before .before .before .before .before .before .before .before .pre .0, all-bytes rest (λ i. omega (arith, c .before .before .before .before .before .before .before .before .before .before .before .before .before .before .shared-slice-known4 .given i)))
-    (all-bytes designation2 (λ i. omega (arith, c .before .before .before .before .before .before .before .before .before .before .before .before .before .shared-slice-known5 .given i)))
-    (c .before .before .before .before .before .before .before .before .before .before .before .before .before .before .before .before .before .before .pre .1, all-bytes carried (λ i. omega (arith, c .before .before .before .before .before .before .before .before .before .before .before .before .shared-slice-known6 .given i))) in
-    let bs = all-bytes (now (c .before .before .before .before .before .before .before .before .before .before .before .before .before .before .before .before .before .before .args .bytes)) (λ i. omega (arith, c .before .before .before .before .before .before .before .before .before .shared-slice-known9 .given i)) in
-    fits (c .before .before .before .before .before .before .before .before .before .before .before .before .before .before .before .before .before .before .args .year) h t (c .before .before .before .before .before .before .before .before .check-head .result) (c .before .before .before .before .before .before .before .before .check-head .ensures scale) (c .before .before .before .before .before .before .enum-told .given .1) (c .before .before .before .before .before .take-table .result) (c .before .before .before .before .before .take-table .ensures) typed bs _ (c .before .before .before .t .given .1) (c .if1 .left)
+    (all-bytes title (λ i. omega (arith, shared-slice-known3 .given i)))
+    (start .pre .0, all-bytes rest (λ i. omega (arith, shared-slice-known4 .given i)))
+    (all-bytes designation2 (λ i. omega (arith, shared-slice-known5 .given i)))
+    (start .pre .1, all-bytes carried (λ i. omega (arith, shared-slice-known6 .given i))) in
+    let bs = all-bytes (now (start .args .bytes)) (λ i. omega (arith, shared-slice-known9 .given i)) in
+    fits (start .args .year) h t (check-head .result) (check-head .ensures scale) (enum-told .given .1) (take-table .result)
+    (take-table .ensures) typed bs _ (the-t .given .1) (c .if1 .left)
 
 returns-3 : tie.Need-returns-3
 returns-3 c =
-    let date = now (c .before .before .before .before .before .before .before .before .before .before .before .before .before .before .before .before .args .date) in
-    let designation = now (c .before .before .before .before .before .before .before .before .before .before .before .before .before .before .before .before .args .designation) in
-    let title = now (c .before .before .before .before .before .before .before .before .before .before .before .before .before .before .before .before .args .title) in
-    let rest = now (c .before .before .before .before .before .before .before .before .before .before .before .before .before .before .before .before .args .rest) in
-    let designation2 = now (c .before .before .before .before .before .before .before .before .before .before .before .before .before .before .before .before .args .designation2) in
-    let carried = now (c .before .before .before .before .before .before .before .before .before .before .before .before .before .before .before .before .args .carried) in
-    let t = table (now (c .before .before .before .before .before .before .before .before .before .before .before .before .before .before .before .before .args .table)) (now (c .before .before .before .before .before .before .before .before .before .before .before .before .before .before .before .before .args .elements)) (now (c .before .before .before .before .before .before .before .before .before .before .before .before .before .before .before .before .args .bytes)) in
+    let start = c .before .before .before .before .before .before .before .before .before .before .before .before .before .before .before .before in
+    let check-head = c .before .before .before .before .before .before .check-head in
+    let enum-told = c .before .before .before .before .enum-told in
+    let take-table = c .before .before .before .take-table in
+    let date = now (start .args .date) in
+    let designation = now (start .args .designation) in
+    let title = now (start .args .title) in
+    let rest = now (start .args .rest) in
+    let designation2 = now (start .args .designation2) in
+    let carried = now (start .args .carried) in
+    let t = table (now (start .args .table)) (now (start .args .elements)) (now (start .args .bytes)) in
     λ scale within.
     let h = headOf date designation scale title rest designation2 carried in
-    rows-stop (c .before .before .before .before .before .before .before .before .before .before .before .before .before .before .before .before .args .year) h t (c .before .before .before .before .before .before .check-head .result) (c .before .before .before .before .before .before .check-head .ensures scale) (c .before .before .before .before .enum-told .given .1) (c .before .before .before .take-table .result) (c .before .before .before .take-table .ensures) _ (c .before .r .given .1)
+    rows-stop (start .args .year) h t (check-head .result) (check-head .ensures scale) (enum-told .given .1) (take-table .result)
+    (take-table .ensures) _ (c .before .r .given .1)
 
 returns-4 : tie.Need-returns-4
 returns-4 c =
-    let date = now (c .before .before .before .before .before .before .before .before .before .before .before .before .before .args .date) in
-    let designation = now (c .before .before .before .before .before .before .before .before .before .before .before .before .before .args .designation) in
-    let title = now (c .before .before .before .before .before .before .before .before .before .before .before .before .before .args .title) in
-    let rest = now (c .before .before .before .before .before .before .before .before .before .before .before .before .before .args .rest) in
-    let designation2 = now (c .before .before .before .before .before .before .before .before .before .before .before .before .before .args .designation2) in
-    let carried = now (c .before .before .before .before .before .before .before .before .before .before .before .before .before .args .carried) in
-    let t = table (now (c .before .before .before .before .before .before .before .before .before .before .before .before .before .args .table)) (now (c .before .before .before .before .before .before .before .before .before .before .before .before .before .args .elements)) (now (c .before .before .before .before .before .before .before .before .before .before .before .before .before .args .bytes)) in
+    let start = c .before .before .before .before .before .before .before .before .before .before .before .before .before in
+    let check-head = c .before .before .before .check-head in
+    let date = now (start .args .date) in
+    let designation = now (start .args .designation) in
+    let title = now (start .args .title) in
+    let rest = now (start .args .rest) in
+    let designation2 = now (start .args .designation2) in
+    let carried = now (start .args .carried) in
+    let t = table (now (start .args .table)) (now (start .args .elements)) (now (start .args .bytes)) in
     λ scale within.
     let h = headOf date designation scale title rest designation2 carried in
-    head-stops (c .before .before .before .before .before .before .before .before .before .before .before .before .before .args .year) h t (c .before .before .before .check-head .result) (c .before .before .before .check-head .ensures scale) _ (c .before .r2 .given .1)
+    head-stops (start .args .year) h t (check-head .result) (check-head .ensures scale) _ (c .before .r2 .given .1)
 
 pub measure-spec : {M : Type 1} → statement M
 measure-spec =

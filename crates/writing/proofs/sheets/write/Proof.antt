@@ -8,15 +8,28 @@ use Rattle.writing.proofs.sheets.write.Tie as tie
 
 returns : tie.Need-returns
 returns c =
-    let h = headOf (now (c .before .before .before .before .before .before .before .before .before .before .before .before .before .before .before .before .before .before .before .before .args .date)) (now (c .before .before .before .before .before .before .before .before .before .before .before .before .before .before .before .before .before .before .before .before .args .designation)) (c .before .before .before .before .before .before .before .before .before .before .before .before .before .before .before .before .before .before .before .before .args .scale) (now (c .before .before .before .before .before .before .before .before .before .before .before .before .before .before .before .before .before .before .before .before .args .title)) (now (c .before .before .before .before .before .before .before .before .before .before .before .before .before .before .before .before .before .before .before .before .args .rest)) (now (c .before .before .before .before .before .before .before .before .before .before .before .before .before .before .before .before .before .before .before .before .args .designation2)) (now (c .before .before .before .before .before .before .before .before .before .before .before .before .before .before .before .before .before .before .before .before .args .carried)) in
-    let t = table (now (c .before .before .before .before .before .before .before .before .before .before .before .before .before .before .before .before .before .before .before .before .args .table)) (now (c .before .before .before .before .before .before .before .before .before .before .before .before .before .before .before .before .before .before .before .before .args .elements)) (now (c .before .before .before .before .before .before .before .before .before .before .before .before .before .before .before .before .before .before .before .before .args .bytes)) in
-    at-known (c .before .before .before .before .before .before .before .before .before .before .before .before .before .before .before .before .before .before .before .before .args .at .year) _ h t (now (c .before .before .before .before .before .before .before .before .before .before .before .before .before .before .before .before .before .before .before .before .args .out)) _ (c .before .before .before .before .before .before .before .before .before .before .before .year .ensures) (c .before .before .before .before .before .before .before .before .before .before .new .ensures .0) _ _ _ _ (c .before .before .before .before .before .before .before .before .known .given .1) (c .before .before .before .before .year2 .ensures) (c .before .before .write-at .ensures)
+    let start = c .before .before .before .before .before .before .before .before .before .before .before .before .before .before .before
+    .before .before .before .before .before in
+    let year = c .before .before .before .before .before .before .before .before .before .before .before .year in
+    let new = c .before .before .before .before .before .before .before .before .before .before .new in
+    let known = c .before .before .before .before .before .before .before .before .known in
+    let year2 = c .before .before .before .before .year2 in
+    let write-at = c .before .before .write-at in
+    let h = headOf (now (start .args .date)) (now (start .args .designation)) (start .args .scale) (now (start .args .title))
+    (now (start .args .rest)) (now (start .args .designation2)) (now (start .args .carried)) in
+    let t = table (now (start .args .table)) (now (start .args .elements)) (now (start .args .bytes)) in
+    at-known (start .args .at .year) _ h t (now (start .args .out)) _ (year .ensures) (new .ensures .0) _ _ _ _ (known .given .1)
+    (year2 .ensures) (write-at .ensures)
 
 returns-2 : tie.Need-returns-2
 returns-2 c =
-    let h = headOf (now (c .before .before .before .before .before .before .before .before .before .before .before .before .before .args .date)) (now (c .before .before .before .before .before .before .before .before .before .before .before .before .before .args .designation)) (c .before .before .before .before .before .before .before .before .before .before .before .before .before .args .scale) (now (c .before .before .before .before .before .before .before .before .before .before .before .before .before .args .title)) (now (c .before .before .before .before .before .before .before .before .before .before .before .before .before .args .rest)) (now (c .before .before .before .before .before .before .before .before .before .before .before .before .before .args .designation2)) (now (c .before .before .before .before .before .before .before .before .before .before .before .before .before .args .carried)) in
-    let t = table (now (c .before .before .before .before .before .before .before .before .before .before .before .before .before .args .table)) (now (c .before .before .before .before .before .before .before .before .before .before .before .before .before .args .elements)) (now (c .before .before .before .before .before .before .before .before .before .before .before .before .before .args .bytes)) in
-    at-unknown (c .before .before .before .before .before .before .before .before .before .before .before .before .before .args .at .year) _ h t (now (c .before .before .before .before .before .before .before .before .before .before .before .before .before .args .out)) _ (c .before .before .before .before .year .ensures) (c .before .before .before .new .ensures .0) _ (c .before .r .given .1)
+    let start = c .before .before .before .before .before .before .before .before .before .before .before .before .before in
+    let year = c .before .before .before .before .year in
+    let new = c .before .before .before .new in
+    let h = headOf (now (start .args .date)) (now (start .args .designation)) (start .args .scale) (now (start .args .title))
+    (now (start .args .rest)) (now (start .args .designation2)) (now (start .args .carried)) in
+    let t = table (now (start .args .table)) (now (start .args .elements)) (now (start .args .bytes)) in
+    at-unknown (start .args .at .year) _ h t (now (start .args .out)) _ (year .ensures) (new .ensures .0) _ (c .before .r .given .1)
 
 pub write-spec : {M : Type 1} → statement M
 write-spec =
