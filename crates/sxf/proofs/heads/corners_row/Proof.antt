@@ -13,7 +13,9 @@ use Rattle.sxf.proofs.heads.corners_row.Tie as tie
 
 bits-of-requires : tie.Need-bits-of-requires
 unfolding Defined
-bits-of-requires c κs = subst Defined (c .before .c .given .1) (c .before .before .before .pre)
+bits-of-requires c κs =
+    let start = c .before .before .before in
+    subst Defined (c .before .c .given .1) (start .pre)
 
 -- eight numbers, with the place that the code gives
 by-place : (x : Corners) (d : PlaneCorners) (place : ℕ) (b : CornerBits) (r : SxfCorners) → r ≡ bitsRow place b → place ≡ 0 → b ≡ bitsOf d → x ≡ Doubles d
@@ -22,7 +24,9 @@ unfolding cornersRow
 by-place x d place b r q z h e = q ∙ ap (λ k. bitsRow k b) z ∙ ap (bitsRow 0) h ∙ sym (ap cornersRow e)
 
 returns : tie.Need-returns
-returns c = by-place _ _ _ _ _ (c .bits-row .ensures) refl (c .before .bits-of .ensures) (c .before .before .before .c .given .1)
+returns c =
+    let the-c = c .before .before .before .c in
+    by-place _ _ _ _ _ (c .bits-row .ensures) refl (c .before .bits-of .ensures) (the-c .given .1)
 
 returns-2 : tie.Need-returns-2
 unfolding cornersRow

@@ -10,7 +10,9 @@ returns c = sym (ap headRow (c .before .before .h .given .1))
 
 returns-2 : tie.Need-returns-2
 unfolding headRow
-returns-2 c = sym (ap headRow (c .before .before .before .h2 .given .1))
+returns-2 c =
+    let h2 = c .before .before .before .h2 in
+    sym (ap headRow (h2 .given .1))
 
 pub head-row-spec : {M : Type 1} → statement M
 head-row-spec =

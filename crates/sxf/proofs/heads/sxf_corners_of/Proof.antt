@@ -14,10 +14,19 @@ corners-row-requires : tie.Need-corners-row-requires
 corners-row-requires c κs = subst Defined (sym (c .corners-of .ensures)) (sheet-defined _)
 
 returns : tie.Need-returns
-returns c = known (λ z. cornersIn (reading z (now (c .before .before .before .before .before .before .before .args .sheet)))) cornersRow (c .before .before .before .before .before .before .before .args .year) _ _ _ _ (c .before .before .before .before .before .new .ensures .0) (c .before .before .before .at .given .1) (c .before .corners-of .ensures) (c .corners-row .ensures)
+returns c =
+    let start = c .before .before .before .before .before .before .before in
+    let new = c .before .before .before .before .before .new in
+    let at = c .before .before .before .at in
+    known (λ z. cornersIn (reading z (now (start .args .sheet)))) cornersRow (start .args .year) _ _ _ _ (new .ensures .0) (at .given .1)
+    (c .before .corners-of .ensures) (c .corners-row .ensures)
 
 returns-2 : tie.Need-returns-2
-returns-2 c = c .no-corners .ensures ∙ ap cornersRow (corners-unknown (c .before .before .before .before .before .before .args .year) _ (now (c .before .before .before .before .before .before .args .sheet)) _ (c .before .before .before .before .new .ensures .0) (c .before .before .r .given .1))
+returns-2 c =
+    let start = c .before .before .before .before .before .before in
+    let new = c .before .before .before .before .new in
+    let r = c .before .before .r in
+    c .no-corners .ensures ∙ ap cornersRow (corners-unknown (start .args .year) _ (now (start .args .sheet)) _ (new .ensures .0) (r .given .1))
 
 pub sxf-corners-of-spec : {M : Type 1} → statement M
 sxf-corners-of-spec =

@@ -9,10 +9,19 @@ use Rattle.sxf.proofs.heads.sxf_head_of.Statement.{statement}
 use Rattle.sxf.proofs.heads.sxf_head_of.Tie as tie
 
 returns : tie.Need-returns
-returns c = known (λ z. headedOf (reading z (now (c .before .before .before .before .before .before .before .args .sheet)))) headRow (c .before .before .before .before .before .before .before .args .year) _ _ _ _ (c .before .before .before .before .before .new .ensures .0) (c .before .before .before .at .given .1) (c .before .head-of .ensures) (c .head-row .ensures)
+returns c =
+    let start = c .before .before .before .before .before .before .before in
+    let new = c .before .before .before .before .before .new in
+    let at = c .before .before .before .at in
+    known (λ z. headedOf (reading z (now (start .args .sheet)))) headRow (start .args .year) _ _ _ _ (new .ensures .0) (at .given .1)
+    (c .before .head-of .ensures) (c .head-row .ensures)
 
 returns-2 : tie.Need-returns-2
-returns-2 c = c .head-row2 .ensures ∙ ap headRow (head-unknown (c .before .before .before .before .before .before .args .year) _ (now (c .before .before .before .before .before .before .args .sheet)) _ (c .before .before .before .before .new .ensures .0) (c .before .before .r .given .1))
+returns-2 c =
+    let start = c .before .before .before .before .before .before in
+    let new = c .before .before .before .before .new in
+    let r = c .before .before .r in
+    c .head-row2 .ensures ∙ ap headRow (head-unknown (start .args .year) _ (now (start .args .sheet)) _ (new .ensures .0) (r .given .1))
 
 pub sxf-head-of-spec : {M : Type 1} → statement M
 sxf-head-of-spec =

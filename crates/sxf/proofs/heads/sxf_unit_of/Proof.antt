@@ -9,10 +9,19 @@ use Rattle.sxf.proofs.heads.sxf_unit_of.Statement.{statement}
 use Rattle.sxf.proofs.heads.sxf_unit_of.Tie as tie
 
 returns : tie.Need-returns
-returns c = known (λ z. unitIn (reading z (now (c .before .before .before .before .before .before .before .args .sheet)))) unitRow (c .before .before .before .before .before .before .before .args .year) _ _ _ _ (c .before .before .before .before .before .new .ensures .0) (c .before .before .before .at .given .1) (c .before .unit-of .ensures) (c .unit-row .ensures)
+returns c =
+    let start = c .before .before .before .before .before .before .before in
+    let new = c .before .before .before .before .before .new in
+    let at = c .before .before .before .at in
+    known (λ z. unitIn (reading z (now (start .args .sheet)))) unitRow (start .args .year) _ _ _ _ (new .ensures .0) (at .given .1)
+    (c .before .unit-of .ensures) (c .unit-row .ensures)
 
 returns-2 : tie.Need-returns-2
-returns-2 c = c .unit-row2 .ensures ∙ ap unitRow (unit-unknown (c .before .before .before .before .before .before .args .year) _ (now (c .before .before .before .before .before .before .args .sheet)) _ (c .before .before .before .before .new .ensures .0) (c .before .before .r .given .1))
+returns-2 c =
+    let start = c .before .before .before .before .before .before in
+    let new = c .before .before .before .before .new in
+    let r = c .before .before .r in
+    c .unit-row2 .ensures ∙ ap unitRow (unit-unknown (start .args .year) _ (now (start .args .sheet)) _ (new .ensures .0) (r .given .1))
 
 pub sxf-unit-of-spec : {M : Type 1} → statement M
 sxf-unit-of-spec =

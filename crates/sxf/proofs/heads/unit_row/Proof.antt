@@ -10,7 +10,9 @@ returns c = c .unit-known .ensures ∙ sym (ap unitRow (c .before .before .u .gi
 
 returns-2 : tie.Need-returns-2
 unfolding unitRow
-returns-2 c = sym (ap unitRow (c .before .before .before .u2 .given .1))
+returns-2 c =
+    let u2 = c .before .before .before .u2 in
+    sym (ap unitRow (u2 .given .1))
 
 pub unit-row-spec : {M : Type 1} → statement M
 unit-row-spec =

@@ -14,7 +14,9 @@ returns-2 c = sym (ap valueRow (c .enum-told .given .1))
 
 returns-3 : tie.Need-returns-3
 unfolding valueRow
-returns-3 c = sym (ap valueRow (c .before .before .before .v2 .given .1))
+returns-3 c =
+    let v2 = c .before .before .before .v2 in
+    sym (ap valueRow (v2 .given .1))
 
 pub value-row-spec : {M : Type 1} → statement M
 value-row-spec =

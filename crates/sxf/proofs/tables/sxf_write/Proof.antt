@@ -8,15 +8,26 @@ use Rattle.sxf.proofs.tables.sxf_write.Tie as tie
 
 returns : tie.Need-returns
 returns c =
-    let h = headOf (now (c .before .before .before .before .before .before .before .before .before .before .before .before .before .before .before .before .before .args .date)) (now (c .before .before .before .before .before .before .before .before .before .before .before .before .before .before .before .before .before .args .designation)) (c .before .before .before .before .before .before .before .before .before .before .before .before .before .before .before .before .before .args .scale) (now (c .before .before .before .before .before .before .before .before .before .before .before .before .before .before .before .before .before .args .title)) (now (c .before .before .before .before .before .before .before .before .before .before .before .before .before .before .before .before .before .args .rest)) (now (c .before .before .before .before .before .before .before .before .before .before .before .before .before .before .before .before .before .args .designation2)) (now (c .before .before .before .before .before .before .before .before .before .before .before .before .before .before .before .before .before .args .flags)) in
-    let t = table (now (c .before .before .before .before .before .before .before .before .before .before .before .before .before .before .before .before .before .args .table)) (now (c .before .before .before .before .before .before .before .before .before .before .before .before .before .before .before .before .before .args .elements)) (now (c .before .before .before .before .before .before .before .before .before .before .before .before .before .before .before .before .before .args .bytes)) in
-    write-known (c .before .before .before .before .before .before .before .before .before .before .before .before .before .before .before .before .before .args .year) _ h t (now (c .before .before .before .before .before .before .before .before .before .before .before .before .before .before .before .before .before .args .out)) _ _ (c .before .before .before .write .result) _ (c .before .before .before .before .before .before .before .before .new .ensures .0) (c .before .before .before .before .before .before .at .given .1) (c .before .before .before .write .ensures .0) (c .before .before .before .write .ensures .1) (c .written-row .ensures)
+    let start = c .before .before .before .before .before .before .before .before .before .before .before .before .before .before .before
+    .before .before in
+    let new = c .before .before .before .before .before .before .before .before .new in
+    let at = c .before .before .before .before .before .before .at in
+    let write = c .before .before .before .write in
+    let h = headOf (now (start .args .date)) (now (start .args .designation)) (start .args .scale) (now (start .args .title))
+    (now (start .args .rest)) (now (start .args .designation2)) (now (start .args .flags)) in
+    let t = table (now (start .args .table)) (now (start .args .elements)) (now (start .args .bytes)) in
+    write-known (start .args .year) _ h t (now (start .args .out)) _ _ (write .result) _ (new .ensures .0) (at .given .1) (write .ensures .0)
+    (write .ensures .1) (c .written-row .ensures)
 
 returns-2 : tie.Need-returns-2
 returns-2 c =
-    let h = headOf (now (c .before .before .before .before .before .before .before .before .before .before .before .before .before .args .date)) (now (c .before .before .before .before .before .before .before .before .before .before .before .before .before .args .designation)) (c .before .before .before .before .before .before .before .before .before .before .before .before .before .args .scale) (now (c .before .before .before .before .before .before .before .before .before .before .before .before .before .args .title)) (now (c .before .before .before .before .before .before .before .before .before .before .before .before .before .args .rest)) (now (c .before .before .before .before .before .before .before .before .before .before .before .before .before .args .designation2)) (now (c .before .before .before .before .before .before .before .before .before .before .before .before .before .args .flags)) in
-    let t = table (now (c .before .before .before .before .before .before .before .before .before .before .before .before .before .args .table)) (now (c .before .before .before .before .before .before .before .before .before .before .before .before .before .args .elements)) (now (c .before .before .before .before .before .before .before .before .before .before .before .before .before .args .bytes)) in
-    write-unknown (c .before .before .before .before .before .before .before .before .before .before .before .before .before .args .year) _ h t (now (c .before .before .before .before .before .before .before .before .before .before .before .before .before .args .out)) _ _ (c .before .before .before .before .new .ensures .0) (c .before .before .r .given .1) (c .written-row2 .ensures)
+    let start = c .before .before .before .before .before .before .before .before .before .before .before .before .before in
+    let new = c .before .before .before .before .new in
+    let r = c .before .before .r in
+    let h = headOf (now (start .args .date)) (now (start .args .designation)) (start .args .scale) (now (start .args .title))
+    (now (start .args .rest)) (now (start .args .designation2)) (now (start .args .flags)) in
+    let t = table (now (start .args .table)) (now (start .args .elements)) (now (start .args .bytes)) in
+    write-unknown (start .args .year) _ h t (now (start .args .out)) _ _ (new .ensures .0) (r .given .1) (c .written-row2 .ensures)
 
 pub sxf-write-spec : {M : Type 1} → statement M
 sxf-write-spec =

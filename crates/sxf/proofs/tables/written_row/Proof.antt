@@ -10,7 +10,9 @@ returns c = sym (ap writtenRow (c .before .w .given .1))
 
 returns-2 : tie.Need-returns-2
 unfolding writtenRow
-returns-2 c = sym (ap writtenRow (c .before .before .before .w2 .given .1))
+returns-2 c =
+    let w2 = c .before .before .before .w2 in
+    sym (ap writtenRow (w2 .given .1))
 
 pub written-row-spec : {M : Type 1} → statement M
 written-row-spec =
