@@ -23,7 +23,10 @@ loop-holds : tie.Need-loop-holds Inv-loop μ-loop
 loop-holds c = (omega arith, same-start _ _ _ _ _ _, record { inside = omega arith; rest = omega arith; small = omega arith })
 
 sum-past-requires : tie.Need-sum-past-requires Inv-loop μ-loop
-sum-past-requires c κs = (c .before .loop .inv .2, c .before .loop .inv .0 .used, c .before .before .before .pre .1)
+sum-past-requires c κs =
+    let start = c .before .before .before in
+    let loop = c .before .loop in
+    (loop .inv .2, loop .inv .0 .used, start .pre .1)
 
 sum-requires : tie.Need-sum-requires Inv-loop μ-loop
 sum-requires c κs =
@@ -33,8 +36,11 @@ sum-requires c κs =
 
 returns : tie.Need-returns Inv-loop μ-loop
 returns c =
+    let loop = c .before .before .before .before .before .before .before .before .before .loop in
+    let batch = c .before .before .before .before .before .before .batch in
     let records = c .before .before .before .before .records in
-    let stop = batch-stop _ _ _ _ _ _ _ _ (c .before .before .before .before .before .before .before .before .before .loop .inv .1) _ (c .before .before .before .before .before .before .batch .ensures .0) (records .result) (records .ensures .0) _ (c .before .before .r .given .1) in
+    let r = c .before .before .r in
+    let stop = batch-stop _ _ _ _ _ _ _ _ (loop .inv .1) _ (batch .ensures .0) (records .result) (records .ensures .0) _ (r .given .1) in
     (c .with-sum .ensures .0 ∙ stop, (c .with-sum .ensures .1, c .with-sum .ensures .2))
 
 loop-again : tie.Need-loop-again Inv-loop μ-loop
@@ -49,7 +55,10 @@ loop-again c =
     )
 
 returns-2 : tie.Need-returns-2 Inv-loop μ-loop
-returns-2 c = (c .with-sum2 .ensures .0 ∙ same-done _ _ _ _ _ _ _ _ (c .before .before .loop .inv .1) (omega arith), (c .with-sum2 .ensures .1, c .with-sum2 .ensures .2))
+returns-2 c = (
+  c .with-sum2 .ensures .0 ∙ same-done _ _ _ _ _ _ _ _ (c .before .before .loop .inv .1) (omega arith),
+  (c .with-sum2 .ensures .1, c .with-sum2 .ensures .2),
+)
 
 pub walk-spec : {M : Type 1} → statement M
 walk-spec =

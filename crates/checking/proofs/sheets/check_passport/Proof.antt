@@ -6,12 +6,19 @@ use Rattle.checking.proofs.sheets.check_passport.Tie as tie
 
 returns : tie.Need-returns
 unfolding passportChecks
-returns c = λ y.
-    c .before .before .before .before .before .before .fixed .ensures y
-    ▸ c .before .before .before .before .before .fixed2 .ensures y
-    ▸ c .before .before .before .before .fixed3 .ensures y
-    ▸ (rw (c .before .before .before .before .before .before .before .before .pre .1) at (c .before .before .before .fixed4 .ensures y))
-    ▸ c .before .before .text .ensures y
+returns c =
+    let start = c .before .before .before .before .before .before .before .before in
+    let fixed = c .before .before .before .before .before .before .fixed in
+    let fixed2 = c .before .before .before .before .before .fixed2 in
+    let fixed3 = c .before .before .before .before .fixed3 in
+    let fixed4 = c .before .before .before .fixed4 in
+    let text = c .before .before .text in
+    λ y.
+    fixed .ensures y
+    ▸ fixed2 .ensures y
+    ▸ fixed3 .ensures y
+    ▸ (rw (start .pre .1) at (fixed4 .ensures y))
+    ▸ text .ensures y
     ▸ c .before .text2 .ensures y
     ▸ c .text3 .ensures y
 

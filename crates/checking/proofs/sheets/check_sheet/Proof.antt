@@ -5,7 +5,9 @@ use Rattle.checking.proofs.sheets.check_sheet.Statement.{statement}
 use Rattle.checking.proofs.sheets.check_sheet.Tie as tie
 
 returns : tie.Need-returns
-returns c = sheet-long (c .before .before .args .year) (now (c .before .before .args .s)) (c .if1 .taken)
+returns c =
+    let start = c .before .before in
+    sheet-long (start .args .year) (now (start .args .s)) (c .if1 .taken)
 
 returns-2 : tie.Need-returns-2
 returns-2 c = let start = c .before .before .before in sheet-short (start .args .year) (now (start .args .s)) (c .before .if1 .left) (c .if2 .taken)

@@ -12,7 +12,9 @@ sum-of-requires : tie.Need-sum-of-requires
 sum-of-requires c κs = rw (c .part .ensures) (omega (arith, part-length (now (c .before .before .args .s)) 0 12 (omega arith)))
 
 sum-of-requires-2 : tie.Need-sum-of-requires-2
-sum-of-requires-2 c κs = rw (c .part2 .ensures) (omega (arith, part-length (now (c .before .before .before .before .args .s)) 16 436 (omega arith)))
+sum-of-requires-2 c κs =
+    let start = c .before .before .before .before in
+    rw (c .part2 .ensures) (omega (arith, part-length (now (start .args .s)) 16 436 (omega arith)))
 
 -- the two parts' lengths bound their sums
 add-result : tie.Need-add-result
@@ -28,15 +30,18 @@ add-result c =
 
 returns : tie.Need-returns
 returns c =
-    let s = now (c .before .before .before .before .before .args .s) in
+    let start = c .before .before .before .before .before in
+    let part = c .before .before .before .part in
+    let part2 = c .before .part2 in
+    let s = now (start .args .s) in
     omega (
       arith,
-      ap length (c .before .before .before .part .ensures),
-      ap length (c .before .part2 .ensures),
+      ap length (part .ensures),
+      ap length (part2 .ensures),
       part-length s 0 12 (omega arith),
       part-length s 16 436 (omega arith),
-      ap total (c .before .before .before .part .ensures),
-      ap total (c .before .part2 .ensures),
+      ap total (part .ensures),
+      ap total (part2 .ensures),
       total-on s 16 436,
     )
 
