@@ -5,3 +5,5 @@ pub mod Enums
 pub mod Units
 pub mod Corners
 pub mod Values
+pub mod Lent
+pub mod Structs

@@ -28,10 +28,9 @@ use Rattle.laws.proofs.Again as Law
 use Rattle.laws.proofs.Base.Walks.{given-inj, cond-back, then-back}
 use Rattle.laws.proofs.Writing.Sheets.{Typed}
 use Rattle.promises.proofs.Contracts.{Checks, Heads, Unfolds, Writes}
-use Rattle.reading.proofs.Accepted.{read-head}
-use Rattle.reading.proofs.Seen.{seen, by-accepted}
-use Rattle.reading.specs.Rooms.{rooms, theNumbers, theElements, theBytes}
-use Rattle.writing.specs.Sheets.{theSheet}
+use Rattle.reading_head.proofs.Laws.Read.{read-head}
+use Rattle.reading.proofs.Laws.Seen.{seen, by-accepted}
+use Rattle.layout.specs.Answers.Lent.{rooms, theNumbers, theElements, theBytes, theSheet}
 
 -- a sheet of n bytes was written: which, and that the slice begins with it
 by-length : (a : Answer (List ℕ)) (n : ℕ) (o out : List ℕ) → Write.Length n ≡ writtenOf a → out ≡ lent theSheet a o

@@ -7,7 +7,7 @@ use borrow.Fn.Kinds.{Dens, resT, endedOf}
 use contract.Lifetimes.{Lfts}
 use denote.Ref.{now}
 use denote.Triple.Clauses.{AtExit}
-use Rattle.heading.specs.Heads.{headOf}
+use Rattle.layout.specs.Answers.Lent.{headOf, rooms, theNumbers, theElements, theBytes, theSheet}
 use Rattle.layout.specs.Answers.Calls.{reading, roomy, unfolded, written, lent}
 use Rattle.layout.specs.Answers.Enums.{checkedOf, headedOf, writtenOf}
 use Rattle.layout.specs.Sheet.{Head, Table}
@@ -21,10 +21,8 @@ use Rattle.reading.proofs.sheets.check.Kinds as check-kinds
 use Rattle.reading.proofs.sheets.check.Reads as check-sheet
 use Rattle.reading.proofs.sheets.unfold.Kinds as unfold-kinds
 use Rattle.reading.proofs.sheets.unfold.Reads as unfold-sheet
-use Rattle.reading.specs.Rooms.{rooms, theNumbers, theElements, theBytes}
 use Rattle.writing.proofs.sheets.write.Kinds as write-kinds
 use Rattle.writing.proofs.sheets.write.Reads as write-sheet
-use Rattle.writing.specs.Sheets.{theSheet}
 
 -- `check` answers r of the sheet s at the year y
 abbrev pub Checks : ℕ → List ℕ → Checked → Type 0

@@ -1,9 +1,3 @@
--- First what is promised besides the contracts: one answer for each input; then what the functions' proofs rest on.
+-- What is promised besides the contracts: one answer for each input; then the laws that the proofs cite.
 pub mod Once
-pub mod Settings
-pub mod Seen
-pub mod Unfolding
-pub mod Hop
-pub mod One
-pub mod Accepted
-pub mod Asked
+pub mod Laws

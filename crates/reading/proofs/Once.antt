@@ -12,7 +12,7 @@ use Rattle.reading.proofs.sheets.check.Kinds as check-kinds
 use Rattle.reading.proofs.sheets.check.Reads as check-sheet
 use Rattle.reading.proofs.sheets.unfold.Kinds as unfold-kinds
 use Rattle.reading.proofs.sheets.unfold.Reads as unfold-sheet
-use Rattle.views.proofs.Once.{Once}
+use Rattle.meanings.proofs.Once.{Once}
 use borrow.Fn.Kinds.{Dens, resT, endedOf}
 use contract.Lifetimes.{Lfts}
 use denote.Ref.{now}

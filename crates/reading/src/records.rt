@@ -11,8 +11,6 @@ ghost use Rattle.layout.specs.Reading.Sheets.{start, sheetWalk};
 ghost use Rattle.layout.specs.Walk.{answer, upTo};
 ghost use Rattle.reading.specs.Found.{AcceptedAt, Hops, recordBy};
 use crate::sheets::check;
-use checking::records;
-use checking::tally::Counted;
 use fields::numbers;
 use fields::records::first_count;
 use fields::records::reference_number;
@@ -20,7 +18,9 @@ use layout::Checked;
 use layout::Found;
 use layout::RecordAt;
 use layout::Refusal;
-use views::setting::Setting;
+use meanings::setting::Setting;
+use reading_check::records;
+use reading_check::tally::Counted;
 
 // Where the record of a number starts: from header to header, by their total lengths.
 fn place_of(s: &[u8], number: u64) -> usize
@@ -94,11 +94,11 @@ fn record_in(s: &[u8], year: u32, number: u64, count: u64) -> Found
 }
 
 // A number that is not below the count is refused after the sheet's own refusals.
-pub fn record_at(s: &[u8], at: Setting, number: u64) -> Found
-    ensures { λ r. ⌜ r ≡ foundOf (asked (at .year) (now (s .entry)) number) ⌝ }
+pub fn record_at(s: &[u8], setting: Setting, number: u64) -> Found
+    ensures { λ r. ⌜ r ≡ foundOf (asked (setting .year) (now (s .entry)) number) ⌝ }
 {
-    match check(s, at) {
-        Checked::Accepted(sizes) => record_in(s, at.year(), number, sizes.records as u64),
+    match check(s, setting) {
+        Checked::Accepted(sizes) => record_in(s, setting.year(), number, sizes.records as u64),
         Checked::Refused(r) => Found::Refused(r),
     }
 }

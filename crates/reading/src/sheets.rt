@@ -3,21 +3,19 @@ ghost use mathlib.Core.Path.{_≡_};
 ghost use lib.ListN.{length};
 ghost use Rattle.layout.specs.Answers.Calls.{reading, roomy, unfolded, lent};
 ghost use Rattle.layout.specs.Answers.Enums.{checkedOf};
-ghost use Rattle.reading.specs.Rooms.{rooms, theNumbers, theElements, theBytes};
-use checking::sheets::check_sheet;
-use filling::sheets::fill_sheet;
+ghost use Rattle.layout.specs.Answers.Lent.{rooms, theNumbers, theElements, theBytes};
 use layout::Checked;
 use layout::Refusal;
-use views::setting::Made;
-use views::setting::Setting;
+use meanings::setting::Made;
+use meanings::setting::Setting;
 
 // The sizes of what unfolding the sheet gives, or the refusal. The setting is made anew, so that the answer does not rest on who made
 // it: a year that is none of the nine is refused first. (01, The refusals: "Order: setting, TOO LONG, ..")
-pub fn check(s: &[u8], at: Setting) -> Checked
-    ensures { λ r. ⌜ r ≡ checkedOf (reading (at .year) (now (s .entry))) ⌝ }
+pub fn check(s: &[u8], setting: Setting) -> Checked
+    ensures { λ r. ⌜ r ≡ checkedOf (reading (setting .year) (now (s .entry))) ⌝ }
 {
-    match Setting::new(at.year()) {
-        Made::At(known) => check_sheet(s, known.year()),
+    match Setting::new(setting.year()) {
+        Made::At(known) => reading_check::sheets::check(s, known.year()),
         Made::Refused(r) => Checked::Refused(r),
     }
 }
@@ -25,17 +23,17 @@ pub fn check(s: &[u8], at: Setting) -> Checked
 // The record table of the sheet goes to the start of the three slices. Nothing is written before it is known that all of it fits.
 pub fn unfold(
     s: &[u8],
-    at: Setting,
+    setting: Setting,
     table: &mut [u64],
     elements: &mut [u64],
     bytes: &mut [u8],
 ) -> Checked
-    ensures answers { λ r. ⌜ r ≡ checkedOf (roomy (at .year) (now (s .entry)) (rooms (now (table .entry)) (now (elements .entry)) (now (bytes .entry)))) ⌝ }
-    ensures numbers { λ _. ⌜ now (table .exit) ≡ lent theNumbers (unfolded (at .year) (now (s .entry)) (rooms (now (table .entry)) (now (elements .entry)) (now (bytes .entry)))) (now (table .entry)) ⌝ }
-    ensures pool { λ _. ⌜ now (elements .exit) ≡ lent theElements (unfolded (at .year) (now (s .entry)) (rooms (now (table .entry)) (now (elements .entry)) (now (bytes .entry)))) (now (elements .entry)) ⌝ }
-    ensures texts { λ _. ⌜ now (bytes .exit) ≡ lent theBytes (unfolded (at .year) (now (s .entry)) (rooms (now (table .entry)) (now (elements .entry)) (now (bytes .entry)))) (now (bytes .entry)) ⌝ }
+    ensures answers { λ r. ⌜ r ≡ checkedOf (roomy (setting .year) (now (s .entry)) (rooms (now (table .entry)) (now (elements .entry)) (now (bytes .entry)))) ⌝ }
+    ensures numbers { λ _. ⌜ now (table .exit) ≡ lent theNumbers (unfolded (setting .year) (now (s .entry)) (rooms (now (table .entry)) (now (elements .entry)) (now (bytes .entry)))) (now (table .entry)) ⌝ }
+    ensures pool { λ _. ⌜ now (elements .exit) ≡ lent theElements (unfolded (setting .year) (now (s .entry)) (rooms (now (table .entry)) (now (elements .entry)) (now (bytes .entry)))) (now (elements .entry)) ⌝ }
+    ensures texts { λ _. ⌜ now (bytes .exit) ≡ lent theBytes (unfolded (setting .year) (now (s .entry)) (rooms (now (table .entry)) (now (elements .entry)) (now (bytes .entry)))) (now (bytes .entry)) ⌝ }
 {
-    match check(s, at) {
+    match check(s, setting) {
         Checked::Accepted(sizes) => {
             if table.len() < sizes.numbers {
                 return Checked::Refused(Refusal {
@@ -58,7 +56,7 @@ pub fn unfold(
                     year: 0,
                 });
             }
-            fill_sheet(s, table, elements, bytes);
+            reading_fill::sheets::fill(s, table, elements, bytes);
             Checked::Accepted(sizes)
         }
         Checked::Refused(r) => Checked::Refused(r),

@@ -6,7 +6,7 @@ use crate::tell::failed;
 use crate::tell::refused;
 use layout::Refusal;
 use layout::Written;
-use views::setting::Setting;
+use meanings::setting::Setting;
 use writing::sheets::write;
 
 // The row of a point at 3, 4, as in P, with reference bytes of its own.

@@ -12,9 +12,9 @@ use layout::Checked;
 use layout::HeadAt;
 use layout::Headed;
 use layout::Written;
+use meanings::setting::Setting;
 use reading::heads::head_of;
 use reading::sheets::unfold;
-use views::setting::Setting;
 use writing::sheets::write;
 
 // How many numbers or elements there is room for, and how many bytes. No sample here takes more.

@@ -8,8 +8,8 @@ use crate::tell::done;
 use crate::tell::failed;
 use layout::Checked;
 use layout::Written;
+use meanings::setting::Setting;
 use reading::sheets::unfold;
-use views::setting::Setting;
 use writing::sheets::write;
 
 // The bytes from 96 on of a sheet that has nothing but what it must.

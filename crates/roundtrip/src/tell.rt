@@ -1,5 +1,5 @@
 // The lines.
-use views::setting::Setting;
+use meanings::setting::Setting;
 
 fn number(n: u64) {
     io::write_all(1, b" ");

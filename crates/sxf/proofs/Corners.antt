@@ -13,10 +13,10 @@ use Rattle.layout.specs.declared.Corners.{Corners}
 use Rattle.laws.proofs.Base.Lists.{all-drop}
 use Rattle.laws.proofs.Base.Numbers.{number-lt}
 use Rattle.laws.proofs.Called.{reading-sound}
-use Rattle.sxf.specs.Answers.{cornersRow, bitsRow, bitsOf}
+use Rattle.layout.specs.Answers.Structs.{cornersRow, bitsRow, bitsOf}
 use Rattle.sxf.specs.Doubles.{Defined}
-use Rattle.views.proofs.Same.{Words, has-bits}
-use Rattle.views.specs.Places.{eight, placeOr, firstFrom, firstNone}
+use Rattle.meanings.proofs.Same.{Words, has-bits}
+use Rattle.meanings.specs.Places.{eight, placeOr, firstFrom, firstNone}
 use lib.Dec.{T}
 use lib.Ieee.Bits.{nanBits-is}
 use lib.Ieee.{binary64, isNan, nanBits, ofBits}

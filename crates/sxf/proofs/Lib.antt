@@ -1,5 +1,4 @@
--- First what is promised besides the contracts: one answer for each input, and corners as stored; then what the functions' proofs rest on.
+-- What is promised besides the contracts: one answer for each input, and corners as stored; then the laws that the proofs cite.
 pub mod Once
 pub mod Corners
-pub mod Settings
-pub mod Signed
+pub mod Laws

@@ -6,10 +6,10 @@ use Rattle.sxf.proofs.heads.sxf_head_of.Kinds as head-of-kinds
 use Rattle.sxf.proofs.heads.sxf_head_of.Reads as head-of
 use Rattle.sxf.proofs.heads.sxf_unit_of.Kinds as unit-of-kinds
 use Rattle.sxf.proofs.heads.sxf_unit_of.Reads as unit-of
-use Rattle.sxf.proofs.meanings.sxf_value_of.Kinds as value-of-kinds
-use Rattle.sxf.proofs.meanings.sxf_value_of.Reads as value-of
-use Rattle.sxf.proofs.meanings.sxf_visibility_of.Kinds as visibility-of-kinds
-use Rattle.sxf.proofs.meanings.sxf_visibility_of.Reads as visibility-of
+use Rattle.sxf.proofs.values.sxf_value_of.Kinds as value-of-kinds
+use Rattle.sxf.proofs.values.sxf_value_of.Reads as value-of
+use Rattle.sxf.proofs.values.sxf_visibility_of.Kinds as visibility-of-kinds
+use Rattle.sxf.proofs.values.sxf_visibility_of.Reads as visibility-of
 use Rattle.sxf.proofs.records.sxf_record_at.Kinds as record-at-kinds
 use Rattle.sxf.proofs.records.sxf_record_at.Reads as record-at
 use Rattle.sxf.proofs.sheets.sxf_check.Kinds as check-kinds
@@ -18,7 +18,7 @@ use Rattle.sxf.proofs.sheets.sxf_unfold.Kinds as unfold-kinds
 use Rattle.sxf.proofs.sheets.sxf_unfold.Reads as unfold-sheet
 use Rattle.sxf.proofs.tables.sxf_write.Kinds as write-kinds
 use Rattle.sxf.proofs.tables.sxf_write.Reads as write-sheet
-use Rattle.views.proofs.Once.{Once}
+use Rattle.meanings.proofs.Once.{Once}
 use borrow.Fn.Kinds.{Dens, resT, endedOf}
 use contract.Lifetimes.{Lfts}
 use denote.Ref.{now}

@@ -2,7 +2,7 @@
 ghost use mathlib.Core.Path.{_≡_};
 ghost use Rattle.layout.specs.Answers.Calls.{reading};
 ghost use Rattle.layout.specs.Answers.Enums.{headedOf, unitIn, cornersIn};
-ghost use Rattle.sxf.specs.Answers.{headRow, unitRow, unitKnown, unitAs, cornersRow, bitsRow, bitsOf};
+ghost use Rattle.layout.specs.Answers.Structs.{headRow, unitRow, unitKnown, unitAs, cornersRow, bitsRow, bitsOf};
 ghost use Rattle.sxf.specs.Doubles.{Numbers, Defined};
 use layout::CornerBits;
 use layout::Corners;
@@ -11,22 +11,12 @@ use layout::PlaneCorners;
 use layout::Refusal;
 use layout::SheetUnit;
 use layout::UnitAnswer;
+use layout::structs::SxfCorners;
+use layout::structs::SxfHead;
+use layout::structs::SxfUnit;
 use reading::heads;
 use reading::setting::Made;
 use reading::setting::Setting;
-
-// number 0: the lengths of the four texts, and the scale. Otherwise the refusal, and the rest is 0.
-#[repr(C)]
-pub struct SxfHead {
-    pub number: u64,
-    pub place: u64,
-    pub year: u64,
-    pub date: u64,
-    pub designation: u64,
-    pub title: u64,
-    pub designation2: u64,
-    pub scale: u64,
-}
 
 fn head_row(h: Headed) -> SxfHead
     ensures { λ r. ⌜ r ≡ headRow h ⌝ }
@@ -63,17 +53,6 @@ pub extern "C" fn sxf_head_of(sheet: &[u8], year: u32) -> SxfHead
         Made::At(at) => head_row(heads::head_of(sheet, at)),
         Made::Refused(r) => head_row(Headed::Refused(r)),
     }
-}
-
-// number 0: 1 device points, 2 metres, 3 radians, 4 degrees, or 5 and the byte that names no unit. Otherwise the refusal, and the rest
-// is 0.
-#[repr(C)]
-pub struct SxfUnit {
-    pub number: u64,
-    pub place: u64,
-    pub year: u64,
-    pub unit: u64,
-    pub byte: u64,
 }
 
 fn unit_as(unit: u64, byte: u8) -> SxfUnit
@@ -123,23 +102,6 @@ pub extern "C" fn sxf_unit_of(sheet: &[u8], year: u32) -> SxfUnit
         Made::At(at) => unit_row(heads::unit_of(sheet, at)),
         Made::Refused(r) => unit_row(UnitAnswer::Refused(r)),
     }
-}
-
-// number 0: the bits of the eight, and the place of the first that is a NaN, or 0. Otherwise the refusal, and the rest is 0.
-#[repr(C)]
-pub struct SxfCorners {
-    pub number: u64,
-    pub place: u64,
-    pub year: u64,
-    pub nan_at: u64,
-    pub sw_x: u64,
-    pub sw_y: u64,
-    pub nw_x: u64,
-    pub nw_y: u64,
-    pub ne_x: u64,
-    pub ne_y: u64,
-    pub se_x: u64,
-    pub se_y: u64,
 }
 
 // The bits of eight doubles, which are undefined at a NaN.

@@ -1,11 +1,11 @@
-// The library as programs in C and Rust hold it: thin functions over the public calls of `reading`, `views` and `writing`, their answers as
-// structs by value.
+// The library as programs in C and Rust hold it: thin functions over the public calls of `reading` and `writing`, their answers as structs
+// by value (`layout::structs`).
 //
-// Relied on: these three, and that the caller lends what its declaration says (a slice is a pointer and a length, a `&mut` one is lent to
+// Relied on: these two, and that the caller lends what its declaration says (a slice is a pointer and a length, a `&mut` one is lent to
 // this call alone). Promised: the contracts of the calls below, with the year as a number and `number` 0 for success; no call has a
 // `requires`, and two results that meet a contract are equal (proofs/Once.antt).
 pub mod heads;
-pub mod meanings;
 pub mod records;
 pub mod sheets;
 pub mod tables;
+pub mod values;

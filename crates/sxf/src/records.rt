@@ -2,30 +2,12 @@
 ghost use mathlib.Core.Path.{_≡_};
 ghost use Rattle.layout.specs.Answers.Calls.{asked};
 ghost use Rattle.layout.specs.Answers.Enums.{foundOf};
-ghost use Rattle.sxf.specs.Answers.{recordRow};
+ghost use Rattle.layout.specs.Answers.Structs.{recordRow};
 use layout::Found;
+use layout::structs::SxfRecord;
 use reading::records;
 use reading::setting::Made;
 use reading::setting::Setting;
-
-// number 0: the record that starts at `at`. Otherwise the refusal, and the rest is 0.
-#[repr(C)]
-pub struct SxfRecord {
-    pub number: u64,
-    pub place: u64,
-    pub year: u64,
-    pub at: u64,
-    pub total: u64,
-    pub code: u64,
-    pub in_group: u64,
-    pub group: u64,
-    pub reference: u64,
-    pub generalisation: u64,
-    pub word: u64,
-    pub parts: u64,
-    pub items: u64,
-    pub points: u64,
-}
 
 fn record_row(f: Found) -> SxfRecord
     ensures { λ r. ⌜ r ≡ recordRow f ⌝ }

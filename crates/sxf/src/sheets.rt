@@ -2,25 +2,13 @@
 ghost use mathlib.Core.Path.{_≡_};
 ghost use Rattle.layout.specs.Answers.Calls.{reading, roomy, unfolded, lent};
 ghost use Rattle.layout.specs.Answers.Enums.{checkedOf};
-ghost use Rattle.reading.specs.Rooms.{rooms, theNumbers, theElements, theBytes};
-ghost use Rattle.sxf.specs.Answers.{checkedRow};
+ghost use Rattle.layout.specs.Answers.Lent.{rooms, theNumbers, theElements, theBytes};
+ghost use Rattle.layout.specs.Answers.Structs.{checkedRow};
 use layout::Checked;
+use layout::structs::SxfChecked;
 use reading::setting::Made;
 use reading::setting::Setting;
 use reading::sheets;
-
-// number 0: accepted, with its sizes. Otherwise the refusal, and the sizes are 0.
-#[repr(C)]
-pub struct SxfChecked {
-    pub number: u64,
-    pub place: u64,
-    pub year: u64,
-    pub sum: u64,
-    pub records: u64,
-    pub numbers: u64,
-    pub elements: u64,
-    pub bytes: u64,
-}
 
 fn checked_row(c: Checked) -> SxfChecked
     ensures { λ r. ⌜ r ≡ checkedRow c ⌝ }

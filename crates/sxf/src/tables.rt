@@ -1,25 +1,16 @@
 // A sheet is written from a head and a record table, for a year.
 ghost use mathlib.Core.Path.{_≡_};
 ghost use lib.ListN.{length};
-ghost use Rattle.heading.specs.Heads.{headOf};
+ghost use Rattle.layout.specs.Answers.Lent.{headOf, theSheet};
 ghost use Rattle.layout.specs.Answers.Calls.{written, lent};
 ghost use Rattle.layout.specs.Answers.Enums.{writtenOf};
 ghost use Rattle.layout.specs.Writing.Tables.{table as tableOf};
-ghost use Rattle.sxf.specs.Answers.{writtenRow};
-ghost use Rattle.writing.specs.Sheets.{theSheet};
+ghost use Rattle.layout.specs.Answers.Structs.{writtenRow};
 use layout::Written;
+use layout::structs::SxfWritten;
 use writing::setting::Made;
 use writing::setting::Setting;
 use writing::sheets;
-
-// number 0: written, so many bytes. Otherwise the refusal, and the length is 0.
-#[repr(C)]
-pub struct SxfWritten {
-    pub number: u64,
-    pub place: u64,
-    pub year: u64,
-    pub length: u64,
-}
 
 fn written_row(w: Written) -> SxfWritten
     ensures { λ r. ⌜ r ≡ writtenRow w ⌝ }

@@ -1,5 +1,3 @@
--- First what is promised besides the contract: one answer for each input; then what the functions' proofs rest on.
+-- What is promised besides the contract: one answer for each input; then the laws that the proofs cite.
 pub mod Once
-pub mod Measured
-pub mod Emitted
-pub mod Answered
+pub mod Laws

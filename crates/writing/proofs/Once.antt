@@ -1,6 +1,6 @@
 -- The call has one right answer for each input: two results that meet its contract are equal, and so is what they leave in the lent
 -- slice. The contract is that of src/ as the check reads it, so that a contract that says less is refused here.
-use Rattle.views.proofs.Once.{Once}
+use Rattle.meanings.proofs.Once.{Once}
 use Rattle.writing.proofs.sheets.write.Kinds as write-kinds
 use Rattle.writing.proofs.sheets.write.Reads as write-sheet
 use borrow.Fn.Kinds.{Dens, resT, endedOf}

@@ -1,3 +1,2 @@
--- The sheet that goes to the lent slice (Sheets); and, for the contracts of private functions, what is known of it on the way.
-pub mod Sheets
+-- Only for the contracts of private functions: what is known of the sheet on the way.
 pub mod Ready

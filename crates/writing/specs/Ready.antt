@@ -12,9 +12,9 @@ use Rattle.layout.specs.Sheet.{Head, Sheet, Table}
 use Rattle.layout.specs.Walk.{Answer, given, refused, answer, upTo}
 use Rattle.layout.specs.Writing.Sheets.{tableWalk}
 use Rattle.layout.specs.Writing.Tables.{flatten}
-use Rattle.taking.specs.declared.tables.Rows.the-variants as Are
-use Rattle.taking.specs.declared.tables.Rows.{Rows}
-use Rattle.taking.specs.declared.tables.Totals.{Totals}
+use Rattle.writing_check.specs.declared.tables.Rows.the-variants as Are
+use Rattle.writing_check.specs.declared.tables.Rows.{Rows}
+use Rattle.writing_check.specs.declared.tables.Totals.{Totals}
 
 abbrev pub totalsOf : Sheet → Totals
 totalsOf u = record { length = sumBy recordBytes (u .records); records = length (u .records) }

@@ -3,7 +3,7 @@ ghost use mathlib.Core.Path.{_≡_};
 ghost use Prim.Native.Nat.{ℕ, _<_, _^_};
 ghost use lib.ListN.{length};
 ghost use lib.Seq.{sets};
-ghost use Rattle.heading.specs.Heads.{headOf};
+ghost use Rattle.layout.specs.Answers.Lent.{headOf, theSheet};
 ghost use Rattle.layout.specs.Answers.Calls.{written, lent};
 ghost use Rattle.layout.specs.Answers.Enums.{writtenOf};
 ghost use Rattle.layout.specs.Layout.Encode.{encode};
@@ -13,19 +13,16 @@ ghost use Rattle.layout.specs.Walk.{answer, upTo};
 ghost use Rattle.layout.specs.Writing.Sheets.{tableWalk};
 ghost use Rattle.layout.specs.Writing.Tables.{flatten, table as tableOf};
 ghost use Rattle.writing.specs.Ready.{measuredOf, Ready, writtenAt};
-ghost use Rattle.writing.specs.Sheets.{theSheet};
-use emitting::rows::emit_rows;
 use fields::steps::Step;
-use heading::bytes::emit_head;
-use heading::bytes::put_sum;
-use heading::checks::check_head;
 use layout::Refusal;
 use layout::Written;
-use taking::tables::Rows;
-use taking::tables::Totals;
-use taking::tables::take_table;
-use views::setting::Made;
-use views::setting::Setting;
+use meanings::setting::Made;
+use meanings::setting::Setting;
+use writing_check::tables;
+use writing_check::tables::Rows;
+use writing_check::tables::Totals;
+use writing_head::check;
+use writing_head::emit;
 
 // Pass 1: the head by place in the sheet, then the table, then TOO LONG. The scale is any number.
 fn measure(
@@ -45,8 +42,8 @@ fn measure(
         (headOf (now (date .entry)) (now (designation .entry)) scale (now (title .entry)) (now (rest .entry)) (now (designation2 .entry)) (now (carried .entry)))
         (tableOf (now (table .entry)) (now (elements .entry)) (now (bytes .entry)))))) ⌝ }
 {
-    match check_head(date, designation, title, rest, designation2, carried, year) {
-        Step::Fine => match take_table(table, elements, bytes, year) {
+    match check::check(date, designation, title, rest, designation2, carried, year) {
+        Step::Fine => match tables::check(table, elements, bytes, year) {
             Rows::Fine(t) => {
                 if 16776764 < t.length {
                     return Rows::Refused(Refusal {
@@ -86,7 +83,7 @@ fn emit_sheet(
         → now (out .exit) ≡ sets (now (out .entry)) 0 (encode u)) ⌝ }
 {
     let count = t.records as u32;
-    emit_head(
+    emit::emit(
         date,
         designation,
         scale,
@@ -97,8 +94,8 @@ fn emit_sheet(
         count,
         out,
     );
-    emit_rows(table, elements, bytes, t.records, out, 452);
-    put_sum(out, 452 + t.length);
+    writing_emit::tables::emit(table, elements, bytes, t.records, out, 452);
+    emit::emit_sum(out, 452 + t.length);
 }
 
 // At a year that is a setting.
@@ -178,17 +175,17 @@ pub fn write(
     table: &[u64],
     elements: &[u64],
     bytes: &[u8],
-    at: Setting,
+    setting: Setting,
     out: &mut [u8],
 ) -> Written
-    ensures answers { λ r. ⌜ r ≡ writtenOf (written (at .year)
+    ensures answers { λ r. ⌜ r ≡ writtenOf (written (setting .year)
         (headOf (now (date .entry)) (now (designation .entry)) scale (now (title .entry)) (now (rest .entry)) (now (designation2 .entry)) (now (carried .entry)))
         (tableOf (now (table .entry)) (now (elements .entry)) (now (bytes .entry))) (length (now (out .entry)))) ⌝ }
-    ensures sheet { λ _. ⌜ now (out .exit) ≡ lent theSheet (written (at .year)
+    ensures sheet { λ _. ⌜ now (out .exit) ≡ lent theSheet (written (setting .year)
         (headOf (now (date .entry)) (now (designation .entry)) scale (now (title .entry)) (now (rest .entry)) (now (designation2 .entry)) (now (carried .entry)))
         (tableOf (now (table .entry)) (now (elements .entry)) (now (bytes .entry))) (length (now (out .entry)))) (now (out .entry)) ⌝ }
 {
-    match Setting::new(at.year()) {
+    match Setting::new(setting.year()) {
         Made::At(known) => write_at(
             date,
             designation,

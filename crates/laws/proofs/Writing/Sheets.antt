@@ -24,8 +24,7 @@ use Rattle.layout.specs.Writing.Sheets.{titleRules, headWalk, limitRules, table
 use Rattle.layout.specs.Writing.Tables.{flatten}
 use Rattle.laws.proofs.Base.Chains.{Hold, four-case, four-on}
 use Rattle.laws.proofs.Base.Lists.{_&_, both-true}
-use Rattle.laws.proofs.Base.Walks.{given-inj, bind-case, bind-on, checks-case, checks-on}
-use Rattle.laws.proofs.Base.Walks.{Allowed}
+use Rattle.laws.proofs.Base.Walks.{given-inj, bind-case, bind-on, checks-case, checks-on, Allowed}
 use Rattle.laws.proofs.Encoding.Uses.{sheet-uses}
 use Rattle.laws.proofs.Encoding.Lengths.{length-records, count-records}
 use Rattle.laws.proofs.Writing.Limits.{all-fine, all-near}

@@ -7,8 +7,7 @@ use lib.ListN.{length, length-append}
 use native.Mathlib.Nat.{zero-mul, add-mul}
 use native.Mathlib.Omega.{arith}
 use Rattle.layout.specs.Bytes.{All, flat, storedAll, repeat, total}
-use Rattle.layout.specs.Layout.Encode.{encodeItem, encodeText, encodePart, encodeSubobject, encodeMetric, encodeSemantics, encodeRecord}
-use Rattle.layout.specs.Layout.Encode.{encode}
+use Rattle.layout.specs.Layout.Encode.{encodeItem, encodeText, encodePart, encodeSubobject, encodeMetric, encodeSemantics, encodeRecord, encode}
 use Rattle.layout.specs.Layout.Fine.{FineItem, FinePart, FineSubobject, FineHead}
 use Rattle.layout.specs.Layout.Sizes.{sumBy, itemBytes, partBytes, subobjectBytes, recordBytes}
 use Rattle.layout.specs.Reading.Sheets.{start}

@@ -6,7 +6,7 @@ use mathlib.Core.List.{List, [], _∷_}
 use mathlib.Core.Path.{_≡_, refl}
 use lib.IntN.{pos, negsuc}
 use Rattle.layout.specs.Answers.Units.{signed}
-use Rattle.layout.specs.Bytes.{number}
+use Rattle.layout.specs.Bytes.{number, bytes}
 use Rattle.layout.specs.Fields.Item as Field
 use Rattle.layout.specs.Refusals.{SEMANTIC}
 use Rattle.layout.specs.Shared.Types.{Kind, narrow, wide, long, integer, double, unknown, kindOf, goodScale}
@@ -39,3 +39,20 @@ cases : (of 2 0xFF (0xF9 ∷ 0x04 ∷ []) ≡ Number (record { whole = pos 1273;
     × (of 4 0x80 (0 ∷ 0 ∷ 0 ∷ 0 ∷ []) ≡ Refused (record { number = 12; place = 3; year = 0 })) × (of 0 1 (65 ∷ 0 ∷ []) ≡ Other 0)
 unfolding semanticValue
 cases = (refl, refl, refl, refl, refl)
+
+-- An item by its type, its scale byte and its value as a number.
+-- The value has four bytes. An item of type 1 or 2 has only the first of them or the first two, so that every number has an answer. An
+-- item's code says nothing of its value.
+abbrev pub itemOf : ℕ → ℕ → ℕ → Item
+itemOf type scale value = record { code = 0; type = type; scale = scale; value = bytes 4 value }
+
+-- 000, example 1: 127,3 metres; the ends of the ranges; bits past the width; and other types
+item-cases : (semanticValue (itemOf 2 0xFF 0x04F9) ≡ Number (record { whole = pos 1273; power = negsuc 0 }))
+    × (semanticValue (itemOf 1 127 0xFF) ≡ Number (record { whole = negsuc 0; power = pos 127 }))
+    × (semanticValue (itemOf 4 0x81 0x80000000) ≡ Number (record { whole = negsuc 2147483647; power = negsuc 126 }))
+    × (semanticValue (itemOf 4 0x80 0) ≡ Refused (record { number = 12; place = 3; year = 0 }))
+    × (semanticValue (itemOf 1 0 0x1234) ≡ Number (record { whole = pos 0x34; power = pos 0 }))
+    × (semanticValue (itemOf 2 0 0x1FFFF) ≡ Number (record { whole = negsuc 0; power = pos 0 }))
+    × (semanticValue (itemOf 0 1 65) ≡ Other 0) × (semanticValue (itemOf 8 1 65) ≡ Other 8) × (semanticValue (itemOf 3 0x80 65) ≡ Other 3)
+unfolding semanticValue
+item-cases = (refl, refl, refl, refl, refl, refl, refl, refl, refl)

@@ -2,7 +2,7 @@ use Prim.Native.Nat.{_-_}
 use mathlib.Core.Path.{refl}
 use native.Mathlib.Omega.{arith}
 use borrow.Author.Needs.{needs}
-use Rattle.fields.proofs.Put.{Copying, copy-start, copy-turn, copy-done}
+use Rattle.fields.proofs.Laws.Put.{Copying, copy-start, copy-turn, copy-done}
 use Rattle.fields.proofs.copies.put_bytes.Statement.{statement}
 use Rattle.fields.proofs.copies.put_bytes.Tie as tie
 

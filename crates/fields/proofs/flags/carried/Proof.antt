@@ -1,4 +1,4 @@
-use Rattle.fields.proofs.Chain.{as-checks}
+use Rattle.fields.proofs.Laws.Chain.{as-checks}
 use Rattle.fields.specs.Flags.{carried-rules}
 use borrow.Author.Needs.{needs}
 use Rattle.fields.proofs.flags.carried.Statement.{statement}

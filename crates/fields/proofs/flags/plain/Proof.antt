@@ -3,7 +3,7 @@ use mathlib.Core.Bool.{_&&_}
 use lib.Dec.{eqb, leb, ltb}
 use borrow.Author.Tests.{leb-true, ltb-true, eqb-true}
 use Rattle.laws.proofs.Base.Lists.{both-true}
-use Rattle.fields.proofs.Plain.{plain-passes}
+use Rattle.fields.proofs.Laws.Plain.{plain-passes}
 use Rattle.fields.proofs.flags.plain.Statement.{statement}
 use Rattle.fields.proofs.flags.plain.Tie as tie
 

@@ -1,5 +1,5 @@
 use native.Mathlib.Omega.{arith}
-use Rattle.fields.proofs.Chain.{_▸_}
+use Rattle.fields.proofs.Laws.Chain.{_▸_}
 use Rattle.layout.specs.Shared.Reference.{byte20, byte21, byte22, referenceChecks}
 use borrow.Author.Needs.{needs}
 use Rattle.fields.proofs.flags.reference_rules.Statement.{statement}

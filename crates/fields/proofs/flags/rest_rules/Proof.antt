@@ -1,4 +1,4 @@
-use Rattle.fields.proofs.Chain.{_▸_}
+use Rattle.fields.proofs.Laws.Chain.{_▸_}
 use borrow.Author.Needs.{needs}
 use Rattle.fields.proofs.flags.rest_rules.Statement.{statement}
 use Rattle.fields.proofs.flags.rest_rules.Tie as tie

@@ -1,5 +1,5 @@
 use denote.Ref.{now}
-use Rattle.fields.proofs.Laws.{rest-is}
+use Rattle.fields.proofs.Laws.Lists.{rest-is}
 use borrow.Author.Needs.{needs}
 use Rattle.fields.proofs.numbers.rest.Statement.{statement}
 use Rattle.fields.proofs.numbers.rest.Tie as tie

@@ -1,6 +1,6 @@
 use native.Mathlib.Omega.{arith}
 use denote.Ref.{now}
-use Rattle.fields.proofs.Laws.{number-join}
+use Rattle.fields.proofs.Laws.Lists.{number-join}
 use borrow.Author.Needs.{needs}
 use Rattle.fields.proofs.numbers.u32_at.Statement.{statement}
 use Rattle.fields.proofs.numbers.u32_at.Tie as tie

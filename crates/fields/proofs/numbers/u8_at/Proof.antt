@@ -1,4 +1,4 @@
-use Rattle.fields.proofs.Laws.{number-one}
+use Rattle.fields.proofs.Laws.Lists.{number-one}
 use borrow.Author.Needs.{needs}
 use Rattle.fields.proofs.numbers.u8_at.Statement.{statement}
 use Rattle.fields.proofs.numbers.u8_at.Tie as tie

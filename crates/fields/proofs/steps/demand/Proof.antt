@@ -1,6 +1,6 @@
 use borrow.Author.Needs.{needs}
 use Rattle.fields.specs.Steps.{stepOf, afterOf}
-use Rattle.fields.proofs.Chain.{after-fine}
+use Rattle.fields.proofs.Laws.Chain.{after-fine}
 use Rattle.fields.proofs.steps.demand.Statement.{statement}
 use Rattle.fields.proofs.steps.demand.Tie as tie
 

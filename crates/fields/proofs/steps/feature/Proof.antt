@@ -1,7 +1,7 @@
 use borrow.Author.Tests.{le-leb, lt-leb}
 use borrow.Author.Needs.{needs}
 use Rattle.fields.specs.Steps.{stepOf, afterOf}
-use Rattle.fields.proofs.Chain.{after-fine}
+use Rattle.fields.proofs.Laws.Chain.{after-fine}
 use Rattle.fields.proofs.steps.feature.Statement.{statement}
 use Rattle.fields.proofs.steps.feature.Tie as tie
 

@@ -5,7 +5,7 @@ use native.Mathlib.Omega.{arith}
 use lib.ListN.{length, drop}
 use denote.Ref.{now}
 use Rattle.layout.specs.Bytes.{total}
-use Rattle.fields.proofs.Laws.{total-next}
+use Rattle.fields.proofs.Laws.Lists.{total-next}
 use Rattle.fields.proofs.sums.block.Statement.{statement}
 use Rattle.fields.proofs.sums.block.Tie as tie
 

@@ -4,7 +4,7 @@ use native.Mathlib.Omega.{arith}
 use lib.ListN.{length, drop}
 use denote.Ref.{now}
 use Rattle.layout.specs.Bytes.{total}
-use Rattle.fields.proofs.Laws.{total-step, total-end}
+use Rattle.fields.proofs.Laws.Lists.{total-step, total-end}
 use Rattle.fields.proofs.sums.few.Statement.{statement}
 use Rattle.fields.proofs.sums.few.Tie as tie
 

@@ -2,7 +2,7 @@ use mathlib.Core.Path.{ap}
 use native.Mathlib.Omega.{arith}
 use denote.Ref.{now}
 use lib.ListN.{length, length-drop}
-use Rattle.fields.proofs.Laws.{part-length}
+use Rattle.fields.proofs.Laws.Lists.{part-length}
 use borrow.Author.Needs.{needs}
 use Rattle.fields.proofs.sums.sheet_sum.Statement.{statement}
 use Rattle.fields.proofs.sums.sheet_sum.Tie as tie

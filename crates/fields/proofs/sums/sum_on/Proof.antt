@@ -3,7 +3,7 @@ use native.Mathlib.Omega.{arith}
 use denote.Ref.{now}
 use lib.ListN.{length}
 use Rattle.layout.specs.Bytes.{total}
-use Rattle.fields.proofs.Laws.{part-length, total-on}
+use Rattle.fields.proofs.Laws.Lists.{part-length, total-on}
 use borrow.Author.Needs.{needs}
 use Rattle.fields.proofs.sums.sum_on.Statement.{statement}
 use Rattle.fields.proofs.sums.sum_on.Tie as tie

@@ -4,7 +4,7 @@ use native.Mathlib.Omega.{arith}
 use lib.ListN.{length, drop}
 use denote.Ref.{now}
 use Rattle.layout.specs.Bytes.{zeros}
-use Rattle.fields.proofs.Laws.{zeros-other, zeros-more, zeros-end}
+use Rattle.fields.proofs.Laws.Lists.{zeros-other, zeros-more, zeros-end}
 use Rattle.fields.proofs.texts.all_zero.Statement.{statement}
 use Rattle.fields.proofs.texts.all_zero.Tie as tie
 

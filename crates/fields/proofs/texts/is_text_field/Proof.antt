@@ -2,7 +2,7 @@ use mathlib.Core.Bool.{Bool}
 use mathlib.Core.Path.{_∙_, ap}
 use borrow.Author.Needs.{needs}
 use denote.Ref.{now}
-use Rattle.fields.proofs.Laws.{field-tail, field-full}
+use Rattle.fields.proofs.Laws.Lists.{field-tail, field-full}
 use Rattle.fields.proofs.texts.is_text_field.Statement.{statement}
 use Rattle.fields.proofs.texts.is_text_field.Tie as tie
 use Rattle.layout.specs.Bytes.{zeros}

@@ -4,7 +4,7 @@ use native.Mathlib.Omega.{arith}
 use lib.ListN.{length, drop}
 use denote.Ref.{now}
 use Rattle.layout.specs.Shared.Texts.{textOf}
-use Rattle.fields.proofs.Laws.{text-zero, text-more, text-end}
+use Rattle.fields.proofs.Laws.Lists.{text-zero, text-more, text-end}
 use Rattle.fields.proofs.texts.text_length.Statement.{statement}
 use Rattle.fields.proofs.texts.text_length.Tie as tie
 

@@ -3,7 +3,7 @@ use mathlib.Core.Path.{_≡_, refl, sym, _∙_}
 use denote.Ref.{now}
 use Rattle.layout.specs.Reading.Hops.{placeIn}
 use Rattle.reading.specs.Found.{Hops}
-use Rattle.reading.proofs.Hop.{hop-header, hop-turn, hop-done}
+use Rattle.reading.proofs.Laws.Hop.{hop-header, hop-turn, hop-done}
 use Rattle.reading.proofs.records.place_of.Statement.{statement}
 use Rattle.reading.proofs.records.place_of.Tie as tie
 

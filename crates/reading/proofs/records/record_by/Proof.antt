@@ -1,5 +1,5 @@
 use denote.Ref.{now}
-use Rattle.reading.proofs.One.{by-header}
+use Rattle.reading.proofs.Laws.One.{by-header}
 use borrow.Author.Needs.{needs}
 use Rattle.reading.proofs.records.record_by.Statement.{statement}
 use Rattle.reading.proofs.records.record_by.Tie as tie

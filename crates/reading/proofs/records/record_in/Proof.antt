@@ -2,7 +2,7 @@ use mathlib.Core.Path.{_∙_}
 use native.Mathlib.Omega.{arith}
 use denote.Ref.{now}
 use Rattle.laws.proofs.Base.Numbers.{all-bytes}
-use Rattle.reading.proofs.One.{one-of-one, past, hops, place-within, rest-within, found, never}
+use Rattle.reading.proofs.Laws.One.{one-of-one, past, hops, place-within, rest-within, found, never}
 use borrow.Author.Needs.{needs}
 use Rattle.reading.proofs.records.record_in.Statement.{statement}
 use Rattle.reading.proofs.records.record_in.Tie as tie

@@ -1,7 +1,7 @@
 use native.Mathlib.Omega.{arith}
 use denote.Ref.{now}
-use Rattle.reading.proofs.Seen.{seen}
-use Rattle.reading.proofs.Unfolding.{refused-right, short-1, short-2, short-3, fits, filled-right}
+use Rattle.reading.proofs.Laws.Seen.{seen}
+use Rattle.reading.proofs.Laws.Unfolding.{refused-right, short-1, short-2, short-3, fits, filled-right}
 use borrow.Author.Needs.{needs}
 use Rattle.reading.proofs.sheets.unfold.Statement.{statement}
 use Rattle.reading.proofs.sheets.unfold.Tie as tie
@@ -11,7 +11,7 @@ returns c =
     let start = c .before .before .before .before .before .before .before .before .before .before in
     let check = c .before .before .before .before .before .check in
     let sizes = c .before .before .before .sizes in
-    short-1 (start .args .at .year) (now (start .args .s)) (now (start .args .table)) (now (start .args .elements)) (now (start .args .bytes)) _
+    short-1 (start .args .setting .year) (now (start .args .s)) (now (start .args .table)) (now (start .args .elements)) (now (start .args .bytes)) _
     (seen _ _ _ _ (check .ensures) (sizes .given .1)) (omega (arith, c .if1 .taken))
 
 returns-2 : tie.Need-returns-2
@@ -20,7 +20,7 @@ returns-2 c =
     let check = c .before .before .before .before .before .before .before .check in
     let sizes = c .before .before .before .before .before .sizes in
     let if1 = c .before .before .if1 in
-    short-2 (start .args .at .year) (now (start .args .s)) (now (start .args .table)) (now (start .args .elements)) (now (start .args .bytes)) _
+    short-2 (start .args .setting .year) (now (start .args .s)) (now (start .args .table)) (now (start .args .elements)) (now (start .args .bytes)) _
     (seen _ _ _ _ (check .ensures) (sizes .given .1)) (omega (arith, if1 .left)) (omega (arith, c .if2 .taken))
 
 returns-3 : tie.Need-returns-3
@@ -30,11 +30,11 @@ returns-3 c =
     let sizes = c .before .before .before .before .before .before .before .sizes in
     let if1 = c .before .before .before .before .if1 in
     let if2 = c .before .before .if2 in
-    short-3 (start .args .at .year) (now (start .args .s)) (now (start .args .table)) (now (start .args .elements)) (now (start .args .bytes)) _
+    short-3 (start .args .setting .year) (now (start .args .s)) (now (start .args .table)) (now (start .args .elements)) (now (start .args .bytes)) _
     (seen _ _ _ _ (check .ensures) (sizes .given .1)) (omega (arith, if1 .left)) (omega (arith, if2 .left)) (omega (arith, c .if3 .taken))
 
-fill-sheet-requires : tie.Need-fill-sheet-requires
-fill-sheet-requires c κs =
+fill-requires : tie.Need-fill-requires
+fill-requires c κs =
     let start = c .before .before .before .before .before .before .before .before .before .before .before .before .before .before .before
     .before .before in
     let check = c .before .before .before .before .before .before .before .before .before .before .before .before .check in
@@ -42,7 +42,7 @@ fill-sheet-requires c κs =
     let if1 = c .before .before .before .before .before .before .before .if1 in
     let if2 = c .before .before .before .before .before .if2 in
     let if3 = c .before .before .before .if3 in
-    fits (start .args .at .year) (now (start .args .s)) (now (start .args .table)) (now (start .args .elements)) (now (start .args .bytes)) _
+    fits (start .args .setting .year) (now (start .args .s)) (now (start .args .table)) (now (start .args .elements)) (now (start .args .bytes)) _
     (seen _ _ _ _ (check .ensures) (sizes .given .1)) (omega (arith, if1 .left)) (omega (arith, if2 .left)) (omega (arith, if3 .left))
 
 returns-4 : tie.Need-returns-4
@@ -56,16 +56,16 @@ returns-4 c =
     let if1 = c .before .before .before .before .before .before .before .before .before .before .before .before .before .before .if1 in
     let if2 = c .before .before .before .before .before .before .before .before .before .before .before .before .if2 in
     let if3 = c .before .before .before .before .before .before .before .before .before .before .if3 in
-    let fill-sheet = c .before .before .before .before .before .before .fill-sheet in
-    filled-right (start .args .at .year) (now (start .args .s)) (now (start .args .table)) (now (start .args .elements))
+    let fill = c .before .before .before .before .before .before .fill in
+    filled-right (start .args .setting .year) (now (start .args .s)) (now (start .args .table)) (now (start .args .elements))
     (now (start .args .bytes)) _ (seen _ _ _ _ (check .ensures) (sizes .given .1)) (omega (arith, if1 .left)) (omega (arith, if2 .left))
-    (omega (arith, if3 .left)) _ _ _ (fill-sheet .ensures)
+    (omega (arith, if3 .left)) _ _ _ (fill .ensures)
 
 returns-5 : tie.Need-returns-5
 returns-5 c =
     let start = c .before .before .before .before .before .before .before .before in
     let check = c .before .before .before .check in
-    refused-right (start .args .at .year) (now (start .args .s)) (now (start .args .table)) (now (start .args .elements))
+    refused-right (start .args .setting .year) (now (start .args .s)) (now (start .args .table)) (now (start .args .elements))
     (now (start .args .bytes)) _ _ (check .ensures) (c .before .r .given .1)
 
 pub unfold-spec : {M : Type 1} → statement M
@@ -77,7 +77,7 @@ unfold-spec =
     returns
     returns-2
     returns-3
-    fill-sheet-requires
+    fill-requires
     (λ c. search needs)
     (λ c. search needs)
     (λ c. search needs)

@@ -4,9 +4,9 @@ use Rattle.layout.specs.declared.CornerBits.{CornerBits}
 use Rattle.layout.specs.declared.Corners.the-variants.{Doubles}
 use Rattle.layout.specs.declared.Corners.{Corners}
 use Rattle.layout.specs.declared.PlaneCorners.{PlaneCorners}
-use Rattle.sxf.specs.Answers.{cornersRow, bitsRow, bitsOf}
+use Rattle.layout.specs.Answers.Structs.{cornersRow, bitsRow, bitsOf}
 use Rattle.sxf.specs.Doubles.{Defined}
-use Rattle.sxf.specs.declared.heads.SxfCorners.{SxfCorners}
+use Rattle.layout.specs.declared.structs.SxfCorners.{SxfCorners}
 use borrow.Author.Needs.{needs}
 use Rattle.sxf.proofs.heads.corners_row.Statement.{statement}
 use Rattle.sxf.proofs.heads.corners_row.Tie as tie

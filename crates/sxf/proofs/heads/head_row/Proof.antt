@@ -1,5 +1,5 @@
 use mathlib.Core.Path.{sym, ap}
-use Rattle.sxf.specs.Answers.{headRow}
+use Rattle.layout.specs.Answers.Structs.{headRow}
 use borrow.Author.Needs.{needs}
 use Rattle.sxf.proofs.heads.head_row.Statement.{statement}
 use Rattle.sxf.proofs.heads.head_row.Tie as tie

@@ -1,5 +1,5 @@
 use mathlib.Core.Path.{refl}
-use Rattle.sxf.specs.Answers.{cornersRow}
+use Rattle.layout.specs.Answers.Structs.{cornersRow}
 use borrow.Author.Needs.{needs}
 use Rattle.sxf.proofs.heads.no_corners.Statement.{statement}
 use Rattle.sxf.proofs.heads.no_corners.Tie as tie

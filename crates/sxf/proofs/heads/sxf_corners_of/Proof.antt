@@ -3,8 +3,8 @@ use mathlib.Core.Path.{sym, ap, subst, _∙_}
 use Rattle.layout.specs.Answers.Calls.{reading}
 use Rattle.layout.specs.Answers.Enums.{cornersIn}
 use Rattle.sxf.proofs.Corners.{sheet-defined}
-use Rattle.sxf.proofs.Settings.{known, corners-unknown}
-use Rattle.sxf.specs.Answers.{cornersRow}
+use Rattle.sxf.proofs.Laws.Settings.{known, corners-unknown}
+use Rattle.layout.specs.Answers.Structs.{cornersRow}
 use Rattle.sxf.specs.Doubles.{Defined}
 use borrow.Author.Needs.{needs}
 use Rattle.sxf.proofs.heads.sxf_corners_of.Statement.{statement}

@@ -2,8 +2,8 @@ use denote.Ref.{now}
 use mathlib.Core.Path.{ap, _∙_}
 use Rattle.layout.specs.Answers.Calls.{reading}
 use Rattle.layout.specs.Answers.Enums.{headedOf}
-use Rattle.sxf.proofs.Settings.{known, head-unknown}
-use Rattle.sxf.specs.Answers.{headRow}
+use Rattle.sxf.proofs.Laws.Settings.{known, head-unknown}
+use Rattle.layout.specs.Answers.Structs.{headRow}
 use borrow.Author.Needs.{needs}
 use Rattle.sxf.proofs.heads.sxf_head_of.Statement.{statement}
 use Rattle.sxf.proofs.heads.sxf_head_of.Tie as tie

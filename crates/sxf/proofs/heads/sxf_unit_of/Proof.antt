@@ -2,8 +2,8 @@ use denote.Ref.{now}
 use mathlib.Core.Path.{ap, _∙_}
 use Rattle.layout.specs.Answers.Calls.{reading}
 use Rattle.layout.specs.Answers.Enums.{unitIn}
-use Rattle.sxf.proofs.Settings.{known, unit-unknown}
-use Rattle.sxf.specs.Answers.{unitRow}
+use Rattle.sxf.proofs.Laws.Settings.{known, unit-unknown}
+use Rattle.layout.specs.Answers.Structs.{unitRow}
 use borrow.Author.Needs.{needs}
 use Rattle.sxf.proofs.heads.sxf_unit_of.Statement.{statement}
 use Rattle.sxf.proofs.heads.sxf_unit_of.Tie as tie

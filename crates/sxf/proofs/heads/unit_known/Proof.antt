@@ -1,8 +1,8 @@
 use Prim.Native.Nat.{ℕ}
 use mathlib.Core.Path.{_≡_, refl, sym, ap, _∙_}
 use Rattle.layout.specs.declared.SheetUnit.{SheetUnit}
-use Rattle.sxf.specs.Answers.{unitKnown, unitAs}
-use Rattle.sxf.specs.declared.heads.SxfUnit.{SxfUnit}
+use Rattle.layout.specs.Answers.Structs.{unitKnown, unitAs}
+use Rattle.layout.specs.declared.structs.SxfUnit.{SxfUnit}
 use borrow.Author.Needs.{needs}
 use Rattle.sxf.proofs.heads.unit_known.Statement.{statement}
 use Rattle.sxf.proofs.heads.unit_known.Tie as tie

@@ -1,5 +1,5 @@
 use mathlib.Core.Path.{sym, ap, _∙_}
-use Rattle.sxf.specs.Answers.{unitRow}
+use Rattle.layout.specs.Answers.Structs.{unitRow}
 use borrow.Author.Needs.{needs}
 use Rattle.sxf.proofs.heads.unit_row.Statement.{statement}
 use Rattle.sxf.proofs.heads.unit_row.Tie as tie

@@ -3,7 +3,7 @@ use Prim.Native.Nat.{ℕ}
 use mir.Syntax.{w32, w64}
 use mir.Val.{Fits}
 use mathlib.Core.Path.{sym, ap}
-use Rattle.sxf.specs.Answers.{recordRow}
+use Rattle.layout.specs.Answers.Structs.{recordRow}
 use borrow.Author.Needs.{needs}
 use Rattle.sxf.proofs.records.record_row.Statement.{statement}
 use Rattle.sxf.proofs.records.record_row.Tie as tie

@@ -2,8 +2,8 @@ use denote.Ref.{now}
 use mathlib.Core.Path.{ap, _∙_}
 use Rattle.layout.specs.Answers.Calls.{asked}
 use Rattle.layout.specs.Answers.Enums.{foundOf}
-use Rattle.sxf.proofs.Settings.{known, record-unknown}
-use Rattle.sxf.specs.Answers.{recordRow}
+use Rattle.sxf.proofs.Laws.Settings.{known, record-unknown}
+use Rattle.layout.specs.Answers.Structs.{recordRow}
 use borrow.Author.Needs.{needs}
 use Rattle.sxf.proofs.records.sxf_record_at.Statement.{statement}
 use Rattle.sxf.proofs.records.sxf_record_at.Tie as tie

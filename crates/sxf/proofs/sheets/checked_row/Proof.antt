@@ -1,5 +1,5 @@
 use mathlib.Core.Path.{sym, ap}
-use Rattle.sxf.specs.Answers.{checkedRow}
+use Rattle.layout.specs.Answers.Structs.{checkedRow}
 use borrow.Author.Needs.{needs}
 use Rattle.sxf.proofs.sheets.checked_row.Statement.{statement}
 use Rattle.sxf.proofs.sheets.checked_row.Tie as tie

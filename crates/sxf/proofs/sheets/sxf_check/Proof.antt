@@ -1,9 +1,9 @@
 use mathlib.Core.Path.{ap, _∙_}
 use Rattle.layout.specs.Answers.Calls.{reading}
 use Rattle.layout.specs.Answers.Enums.{checkedOf}
-use Rattle.sxf.specs.Answers.{checkedRow}
+use Rattle.layout.specs.Answers.Structs.{checkedRow}
 use denote.Ref.{now}
-use Rattle.sxf.proofs.Settings.{known, check-unknown}
+use Rattle.sxf.proofs.Laws.Settings.{known, check-unknown}
 use borrow.Author.Needs.{needs}
 use Rattle.sxf.proofs.sheets.sxf_check.Statement.{statement}
 use Rattle.sxf.proofs.sheets.sxf_check.Tie as tie

@@ -1,5 +1,5 @@
 use denote.Ref.{now}
-use Rattle.sxf.proofs.Settings.{unfold-known, unfold-unknown}
+use Rattle.sxf.proofs.Laws.Settings.{unfold-known, unfold-unknown}
 use borrow.Author.Needs.{needs}
 use Rattle.sxf.proofs.sheets.sxf_unfold.Statement.{statement}
 use Rattle.sxf.proofs.sheets.sxf_unfold.Tie as tie

@@ -1,7 +1,7 @@
 use denote.Ref.{now}
-use Rattle.heading.specs.Heads.{headOf}
+use Rattle.layout.specs.Answers.Lent.{headOf}
 use Rattle.layout.specs.Writing.Tables.{table}
-use Rattle.sxf.proofs.Settings.{write-known, write-unknown}
+use Rattle.sxf.proofs.Laws.Settings.{write-known, write-unknown}
 use borrow.Author.Needs.{needs}
 use Rattle.sxf.proofs.tables.sxf_write.Statement.{statement}
 use Rattle.sxf.proofs.tables.sxf_write.Tie as tie

@@ -1,5 +1,5 @@
 use mathlib.Core.Path.{sym, ap}
-use Rattle.sxf.specs.Answers.{writtenRow}
+use Rattle.layout.specs.Answers.Structs.{writtenRow}
 use borrow.Author.Needs.{needs}
 use Rattle.sxf.proofs.tables.written_row.Statement.{statement}
 use Rattle.sxf.proofs.tables.written_row.Tie as tie

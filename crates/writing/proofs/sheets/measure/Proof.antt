@@ -1,9 +1,9 @@
 use denote.Ref.{now}
 use native.Mathlib.Omega.{arith}
-use Rattle.heading.specs.Heads.{headOf}
+use Rattle.layout.specs.Answers.Lent.{headOf}
 use Rattle.laws.proofs.Base.Numbers.{all-bytes}
 use Rattle.layout.specs.Writing.Tables.{table}
-use Rattle.writing.proofs.Measured.{head-stops, rows-stop, too-long, fits, typed-head}
+use Rattle.writing.proofs.Laws.Measured.{head-stops, rows-stop, too-long, fits, typed-head}
 use borrow.Author.Needs.{needs}
 use Rattle.writing.proofs.sheets.measure.Statement.{statement}
 use Rattle.writing.proofs.sheets.measure.Tie as tie
@@ -25,9 +25,9 @@ returns c =
     let shared-slice-known6 = c .before .before .before .before .before .before .before .before .before .before .before .before
     .shared-slice-known6 in
     let shared-slice-known9 = c .before .before .before .before .before .before .before .before .before .shared-slice-known9 in
-    let check-head = c .before .before .before .before .before .before .before .before .check-head in
+    let check = c .before .before .before .before .before .before .before .before .check in
     let enum-told = c .before .before .before .before .before .before .enum-told in
-    let take-table = c .before .before .before .before .before .take-table in
+    let check2 = c .before .before .before .before .before .check2 in
     let the-t = c .before .before .before .t in
     let date = now (start .args .date) in
     let designation = now (start .args .designation) in
@@ -47,8 +47,8 @@ returns c =
     (all-bytes designation2 (λ i. omega (arith, shared-slice-known5 .given i)))
     (start .pre .1, all-bytes carried (λ i. omega (arith, shared-slice-known6 .given i))) in
     let bs = all-bytes (now (start .args .bytes)) (λ i. omega (arith, shared-slice-known9 .given i)) in
-    too-long (start .args .year) h t (check-head .result) (check-head .ensures scale) (enum-told .given .1) (take-table .result)
-    (take-table .ensures) typed bs _ (the-t .given .1) (c .if1 .taken)
+    too-long (start .args .year) h t (check .result) (check .ensures scale) (enum-told .given .1) (check2 .result)
+    (check2 .ensures) typed bs _ (the-t .given .1) (c .if1 .taken)
 
 returns-2 : tie.Need-returns-2
 returns-2 c =
@@ -67,9 +67,9 @@ returns-2 c =
     let shared-slice-known6 = c .before .before .before .before .before .before .before .before .before .before .before .before
     .shared-slice-known6 in
     let shared-slice-known9 = c .before .before .before .before .before .before .before .before .before .shared-slice-known9 in
-    let check-head = c .before .before .before .before .before .before .before .before .check-head in
+    let check = c .before .before .before .before .before .before .before .before .check in
     let enum-told = c .before .before .before .before .before .before .enum-told in
-    let take-table = c .before .before .before .before .before .take-table in
+    let check2 = c .before .before .before .before .before .check2 in
     let the-t = c .before .before .before .t in
     let date = now (start .args .date) in
     let designation = now (start .args .designation) in
@@ -89,15 +89,15 @@ returns-2 c =
     (all-bytes designation2 (λ i. omega (arith, shared-slice-known5 .given i)))
     (start .pre .1, all-bytes carried (λ i. omega (arith, shared-slice-known6 .given i))) in
     let bs = all-bytes (now (start .args .bytes)) (λ i. omega (arith, shared-slice-known9 .given i)) in
-    fits (start .args .year) h t (check-head .result) (check-head .ensures scale) (enum-told .given .1) (take-table .result)
-    (take-table .ensures) typed bs _ (the-t .given .1) (c .if1 .left)
+    fits (start .args .year) h t (check .result) (check .ensures scale) (enum-told .given .1) (check2 .result)
+    (check2 .ensures) typed bs _ (the-t .given .1) (c .if1 .left)
 
 returns-3 : tie.Need-returns-3
 returns-3 c =
     let start = c .before .before .before .before .before .before .before .before .before .before .before .before .before .before .before .before in
-    let check-head = c .before .before .before .before .before .before .check-head in
+    let check = c .before .before .before .before .before .before .check in
     let enum-told = c .before .before .before .before .enum-told in
-    let take-table = c .before .before .before .take-table in
+    let check2 = c .before .before .before .check2 in
     let date = now (start .args .date) in
     let designation = now (start .args .designation) in
     let title = now (start .args .title) in
@@ -107,13 +107,13 @@ returns-3 c =
     let t = table (now (start .args .table)) (now (start .args .elements)) (now (start .args .bytes)) in
     λ scale within.
     let h = headOf date designation scale title rest designation2 carried in
-    rows-stop (start .args .year) h t (check-head .result) (check-head .ensures scale) (enum-told .given .1) (take-table .result)
-    (take-table .ensures) _ (c .before .r .given .1)
+    rows-stop (start .args .year) h t (check .result) (check .ensures scale) (enum-told .given .1) (check2 .result)
+    (check2 .ensures) _ (c .before .r .given .1)
 
 returns-4 : tie.Need-returns-4
 returns-4 c =
     let start = c .before .before .before .before .before .before .before .before .before .before .before .before .before in
-    let check-head = c .before .before .before .check-head in
+    let check = c .before .before .before .check in
     let date = now (start .args .date) in
     let designation = now (start .args .designation) in
     let title = now (start .args .title) in
@@ -123,7 +123,7 @@ returns-4 c =
     let t = table (now (start .args .table)) (now (start .args .elements)) (now (start .args .bytes)) in
     λ scale within.
     let h = headOf date designation scale title rest designation2 carried in
-    head-stops (start .args .year) h t (check-head .result) (check-head .ensures scale) _ (c .before .r2 .given .1)
+    head-stops (start .args .year) h t (check .result) (check .ensures scale) _ (c .before .r2 .given .1)
 
 pub measure-spec : {M : Type 1} → statement M
 measure-spec =

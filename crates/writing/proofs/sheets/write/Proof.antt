@@ -1,7 +1,7 @@
 use denote.Ref.{now}
-use Rattle.heading.specs.Heads.{headOf}
+use Rattle.layout.specs.Answers.Lent.{headOf}
 use Rattle.layout.specs.Writing.Tables.{table}
-use Rattle.writing.proofs.Answered.{at-known, at-unknown}
+use Rattle.writing.proofs.Laws.Answered.{at-known, at-unknown}
 use borrow.Author.Needs.{needs}
 use Rattle.writing.proofs.sheets.write.Statement.{statement}
 use Rattle.writing.proofs.sheets.write.Tie as tie
@@ -18,7 +18,7 @@ returns c =
     let h = headOf (now (start .args .date)) (now (start .args .designation)) (start .args .scale) (now (start .args .title))
     (now (start .args .rest)) (now (start .args .designation2)) (now (start .args .carried)) in
     let t = table (now (start .args .table)) (now (start .args .elements)) (now (start .args .bytes)) in
-    at-known (start .args .at .year) _ h t (now (start .args .out)) _ (year .ensures) (new .ensures .0) _ _ _ _ (known .given .1)
+    at-known (start .args .setting .year) _ h t (now (start .args .out)) _ (year .ensures) (new .ensures .0) _ _ _ _ (known .given .1)
     (year2 .ensures) (write-at .ensures)
 
 returns-2 : tie.Need-returns-2
@@ -29,7 +29,7 @@ returns-2 c =
     let h = headOf (now (start .args .date)) (now (start .args .designation)) (start .args .scale) (now (start .args .title))
     (now (start .args .rest)) (now (start .args .designation2)) (now (start .args .carried)) in
     let t = table (now (start .args .table)) (now (start .args .elements)) (now (start .args .bytes)) in
-    at-unknown (start .args .at .year) _ h t (now (start .args .out)) _ (year .ensures) (new .ensures .0) _ (c .before .r .given .1)
+    at-unknown (start .args .setting .year) _ h t (now (start .args .out)) _ (year .ensures) (new .ensures .0) _ (c .before .r .given .1)
 
 pub write-spec : {M : Type 1} → statement M
 write-spec =

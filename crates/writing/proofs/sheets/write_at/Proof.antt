@@ -1,10 +1,10 @@
 use denote.Ref.{now}
 use native.Mathlib.Omega.{arith}
-use Rattle.heading.specs.Heads.{headOf}
+use Rattle.layout.specs.Answers.Lent.{headOf}
 use Rattle.laws.proofs.Base.Numbers.{all-bytes}
 use Rattle.layout.specs.Writing.Tables.{table}
-use Rattle.writing.proofs.Answered.{refused-right, within, ready, short-right, written-right}
-use Rattle.writing.proofs.Measured.{typed-head}
+use Rattle.writing.proofs.Laws.Answered.{refused-right, within, ready, short-right, written-right}
+use Rattle.writing.proofs.Laws.Measured.{typed-head}
 use borrow.Author.Needs.{needs}
 use Rattle.writing.proofs.sheets.write_at.Statement.{statement}
 use Rattle.writing.proofs.sheets.write_at.Tie as tie

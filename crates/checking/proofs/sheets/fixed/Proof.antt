@@ -1,9 +1,0 @@
-use borrow.Author.Needs.{needs}
-use Rattle.checking.proofs.sheets.fixed.Statement.{statement}
-use Rattle.checking.proofs.sheets.fixed.Tie as tie
-
-returns : tie.Need-returns
-returns c = λ y. rw (c .before .u32-at .ensures) at (c .demand .ensures y)
-
-pub fixed-spec : {M : Type 1} → statement M
-fixed-spec = tie.close (tie.spec (λ c κs. search needs) (λ c κs. search needs) returns)

@@ -1,0 +1,46 @@
+use Prim.Native.Nat.{_-_}
+use mathlib.Core.List.{[], _∷_}
+use native.Mathlib.Omega.{arith}
+use borrow.Author.Needs.{needs}
+use Rattle.fields.proofs.Laws.Low.{bytes-low}
+use Rattle.fields.proofs.Laws.Store.{Storing, store-start, store-one, store-done}
+use Rattle.fields.proofs.elements.put4.Statement.{statement}
+use Rattle.fields.proofs.elements.put4.Tie as tie
+
+abbrev Inv-loop : tie.InvT-loop
+Inv-loop xs at n out₀ w i₀ out i = Storing (4 ∷ []) xs at n w out₀ i out
+
+abbrev μ-loop : tie.MeasureT-loop
+μ-loop xs at n out₀ w i₀ out i = n - i
+
+loop-holds : tie.Need-loop-holds Inv-loop μ-loop
+loop-holds c = store-start _ _ _ _ _ _
+
+loop-again : tie.Need-loop-again Inv-loop μ-loop
+loop-again c =
+    let loop = c .before .before .before .before .before .before .loop in
+    let put-u32 = c .before .before .put-u32 in
+    store-one _ _ _ _ _ _ _ _ _ _ (loop .inv) (omega arith) (omega arith) (bytes-low 4 _) (put-u32 .ensures)
+
+returns : tie.Need-returns Inv-loop μ-loop
+returns c = store-done _ _ _ _ _ _ _ _ (c .before .loop .inv) (omega arith)
+
+pub put4-spec : {M : Type 1} → statement M
+put4-spec =
+    tie.close
+    (tie.spec
+    Inv-loop
+    μ-loop
+    loop-holds
+    (λ c. search needs)
+    (λ c. search needs)
+    (λ c. search needs)
+    (λ c. search needs)
+    (λ c. search needs)
+    (λ c. search needs)
+    (λ c κs. search needs)
+    (λ c. search needs)
+    (λ c. search needs)
+    loop-again
+    (λ c. search needs)
+    returns)

@@ -1,0 +1,83 @@
+// Elements of the pool as the bytes of a width. One tight loop each; which loop is chosen once a part.
+ghost use mathlib.Core.List.{[], _∷_};
+ghost use mathlib.Core.Path.{_≡_};
+ghost use Prim.Native.Nat.{_+_, _*_, _≤_, _<_, _^_};
+ghost use lib.ListN.{length, drop, take};
+ghost use lib.Seq.{sets};
+ghost use Rattle.fields.specs.Shapes.{dimensions, widthsOf, pointOf};
+ghost use Rattle.layout.specs.Bytes.{storedAll, repeat};
+use crate::numbers;
+use crate::shapes;
+use crate::shapes::Shape;
+
+// n elements from at on, each its low two bytes, to out at w.
+pub fn put2(xs: &[u64], at: usize, n: usize, out: &mut [u8], w: usize)
+    requires { ⌜ (at + n ≤ length (now xs)) × (w + 2 * n ≤ length (now out)) ⌝ }
+    ensures { λ _. ⌜ now (out .exit) ≡ sets (now (out .entry)) w (storedAll (repeat n (2 ∷ [])) (drop at (now (xs .entry)))) ⌝ }
+{
+    let mut i: usize = 0;
+    while i < n {
+        numbers::put_u16(out, w + 2 * i, (xs[at + i] % 65536) as u16);
+        i += 1;
+    }
+}
+
+// each its low four bytes
+pub fn put4(xs: &[u64], at: usize, n: usize, out: &mut [u8], w: usize)
+    requires { ⌜ (at + n ≤ length (now xs)) × (w + 4 * n ≤ length (now out)) ⌝ }
+    ensures { λ _. ⌜ now (out .exit) ≡ sets (now (out .entry)) w (storedAll (repeat n (4 ∷ [])) (drop at (now (xs .entry)))) ⌝ }
+{
+    let mut i: usize = 0;
+    while i < n {
+        numbers::put_u32(out, w + 4 * i, (xs[at + i] % 4294967296) as u32);
+        i += 1;
+    }
+}
+
+pub fn put8(xs: &[u64], at: usize, n: usize, out: &mut [u8], w: usize)
+    requires { ⌜ (at + n ≤ length (now xs)) × (w + 8 * n ≤ length (now out)) ⌝ }
+    ensures { λ _. ⌜ now (out .exit) ≡ sets (now (out .entry)) w (storedAll (repeat n (8 ∷ [])) (drop at (now (xs .entry)))) ⌝ }
+{
+    let mut i: usize = 0;
+    while i < n {
+        numbers::put_u64(out, w + 8 * i, xs[at + i]);
+        i += 1;
+    }
+}
+
+// n points of two elements of two bytes and a height of four: the one kind of point whose elements are not all of one width.
+pub fn put_points(xs: &[u64], at: usize, n: usize, out: &mut [u8], w: usize)
+    requires { ⌜ (at + 3 * n ≤ length (now xs)) × (w + 8 * n ≤ length (now out)) ⌝ }
+    ensures { λ _. ⌜ now (out .exit) ≡ sets (now (out .entry)) w (storedAll (repeat n (2 ∷ 2 ∷ 4 ∷ [])) (drop at (now (xs .entry)))) ⌝ }
+{
+    let mut i: usize = 0;
+    while i < n {
+        let k = at + 3 * i;
+        let o = w + 8 * i;
+        numbers::put_u16(out, o, (xs[k] % 65536) as u16);
+        numbers::put_u16(out, o + 2, (xs[k + 1] % 65536) as u16);
+        numbers::put_u32(out, o + 4, (xs[k + 2] % 4294967296) as u32);
+        i += 1;
+    }
+}
+
+// The elements of so many points.
+pub fn put_elements(xs: &[u64], at: usize, count: usize, s: Shape, out: &mut [u8], w: usize)
+    requires { ⌜ (at + count * dimensions (s .three) ≤ length (now xs)) × (w + count * pointOf s ≤ length (now out)) × (count < 2 ^ 32) ⌝ }
+    ensures { λ _. ⌜ now (out .exit) ≡ sets (now (out .entry)) w (storedAll (repeat count (widthsOf s)) (drop at (now (xs .entry)))) ⌝ }
+{
+    let n = shapes::elements_of(count, s.three);
+    if s.size {
+        if s.float {
+            put8(xs, at, n, out, w);
+        } else {
+            put4(xs, at, n, out, w);
+        }
+    } else if s.float {
+        put4(xs, at, n, out, w);
+    } else if s.three {
+        put_points(xs, at, count, out, w);
+    } else {
+        put2(xs, at, n, out, w);
+    }
+}

@@ -1,2 +1,0 @@
--- What the writer is given for a head, and the checks on it.
-pub mod Heads

@@ -1,0 +1,5 @@
+-- What is promised besides the contracts: one answer for each input, stored bits, and items; then the laws that the proofs cite.
+pub mod Once
+pub mod Same
+pub mod Items
+pub mod Laws

@@ -1,0 +1,91 @@
+// The sheet: passport and descriptor, then the records.
+ghost use mathlib.Core.List.{[], _∷_};
+ghost use mathlib.Core.Path.{_≡_};
+ghost use Prim.Native.Nat.{ℕ, _+_, _*_, _≤_, _<_};
+ghost use lib.Dec.{eqb};
+ghost use lib.ListN.{length, take, drop};
+ghost use Rattle.reading_check.specs.Sheets.{Headed, recordsIn};
+ghost use Rattle.reading_check.specs.Tally.{shown, tally};
+ghost use Rattle.fields.specs.Steps.{Next};
+ghost use Rattle.fields.specs.declared.steps.Step.the-variants.{Fine};
+ghost use Rattle.layout.specs.Answers.Enums.{checkedOf};
+ghost use Rattle.layout.specs.Bytes.{number, total};
+ghost use Rattle.layout.specs.Fields.{limit};
+ghost use Rattle.layout.specs.Reading.Sheets.{sumOf, passportChecks, sheetWalk};
+ghost use Rattle.layout.specs.Shared.Texts.{isTextField};
+ghost use Rattle.layout.specs.Walk.{must, answer, upTo};
+ghost use Rattle.layout.specs.Writing.Tables.{joined, flattenRecord};
+use crate::records;
+use crate::tally::Counted;
+use fields::flags;
+use fields::numbers;
+use fields::steps::Step;
+use fields::steps::demand;
+use fields::sums;
+use fields::texts;
+use layout::Checked;
+use layout::Refusal;
+use layout::Sizes;
+use reading_head::check;
+
+// A sheet whose head was let through, with what was counted of its records.
+fn check_records(s: &[u8], counted: Counted, year: u32) -> Checked
+    requires { ⌜ Headed (now s) year × (counted ≡ shown (tally (joined flattenRecord)) year (recordsIn (now s))) ⌝ }
+    ensures { λ r. ⌜ r ≡ checkedOf (answer (upTo year) (sheetWalk (now (s .entry)))) ⌝ }
+{
+    match counted {
+        Counted::Fine(t) => {
+            let used = t.used;
+            if used < s.len() - 452 {
+                return Checked::Refused(Refusal {
+                    number: 13,
+                    place: 452 + used,
+                    year: 0,
+                });
+            }
+            Checked::Accepted(Sizes {
+                sum: numbers::u32_at(s, 12),
+                records: numbers::u32_at(s, 440),
+                numbers: t.numbers,
+                elements: t.elements,
+                bytes: t.bytes,
+            })
+        }
+        Counted::Refused(r) => Checked::Refused(r),
+    }
+}
+
+// A sheet that is neither too long nor too short. Its records are walked before the checks on its head, since the sum, which the head
+// states, is of all bytes: so the sheet is gone over once.
+fn check_whole(s: &[u8], year: u32) -> Checked
+    requires { ⌜ (452 ≤ length (now s)) × (length (now s) ≤ limit) ⌝ }
+    ensures { λ r. ⌜ r ≡ checkedOf (answer (upTo year) (sheetWalk (now (s .entry)))) ⌝ }
+{
+    let walked = records::walk(&s[452..], 452, numbers::u32_at(s, 440), year);
+    let counted = walked.counted;
+    match check::check(s, check::head_sum(s) + walked.sum, year) {
+        Step::Fine => check_records(s, counted, year),
+        Step::Refused(r) => Checked::Refused(r),
+    }
+}
+
+// Pass 1: the sizes of what unfolding the sheet gives, or the refusal.
+pub fn check(s: &[u8], year: u32) -> Checked
+    ensures { λ r. ⌜ r ≡ checkedOf (answer (upTo year) (sheetWalk (now (s .entry)))) ⌝ }
+{
+    if 16777216 < s.len() {
+        return Checked::Refused(Refusal {
+            number: 1,
+            place: 0,
+            year: 0,
+        });
+    }
+    if s.len() < 452 {
+        return Checked::Refused(Refusal {
+            number: 2,
+            place: 0,
+            year: 0,
+        });
+    }
+    check_whole(s, year)
+}

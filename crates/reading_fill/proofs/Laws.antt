@@ -1,0 +1,10 @@
+-- Laws that the functions' proofs cite.
+pub mod Elements
+pub mod Moves
+pub mod Parts
+pub mod Loops
+pub mod Items
+pub mod Records
+pub mod Values
+pub mod Sheets
+pub mod Laid

@@ -1,0 +1,44 @@
+use Prim.Native.Nat.{_-_}
+use mathlib.Core.Path.{refl}
+use mathlib.Core.List.{[], _∷_}
+use native.Mathlib.Nat.{one-mul}
+use native.Mathlib.Omega.{arith}
+use borrow.Author.Needs.{needs}
+use Rattle.fields.proofs.Laws.Put.{Putting, put-start, put-turn, put-done}
+use Rattle.reading_fill.proofs.pools.put2.Statement.{statement}
+use Rattle.reading_fill.proofs.pools.put2.Tie as tie
+
+abbrev Inv-loop : tie.InvT-loop
+Inv-loop xs at n out₀ w i₀ out i = Putting (2 ∷ []) xs at n w out₀ i out
+
+abbrev μ-loop : tie.MeasureT-loop
+μ-loop xs at n out₀ w i₀ out i = n - i
+
+loop-holds : tie.Need-loop-holds Inv-loop μ-loop
+loop-holds c = put-start _ _ _ _ _ _
+
+loop-again : tie.Need-loop-again Inv-loop μ-loop
+loop-again c = put-turn _ _ _ _ _ _ _ _ _ (c .before .before .loop .inv) (omega arith) (rw (one-mul, ← c .u16-at .ensures) refl)
+
+returns : tie.Need-returns Inv-loop μ-loop
+returns c = put-done _ _ _ _ _ _ _ _ (c .before .loop .inv) (omega arith)
+
+pub put2-spec : {M : Type 1} → statement M
+put2-spec =
+    tie.close
+    (tie.spec
+    Inv-loop
+    μ-loop
+    loop-holds
+    (λ c. search needs)
+    (λ c. search needs)
+    (λ c κs. search needs)
+    (λ c. search needs)
+    (λ c. search needs)
+    (λ c. search needs)
+    (λ c. search needs)
+    (λ c. search needs)
+    (λ c. search needs)
+    loop-again
+    (λ c. search needs)
+    returns)

@@ -1,0 +1,69 @@
+use Rattle.fields.proofs.Laws.Put.{point-turn, Putting, put-start, put-turn, put-done}
+use Prim.Native.Nat.{_+_, _-_, _*_}
+use mathlib.Core.List.{[], _∷_}
+use native.Mathlib.Omega.{arith}
+use borrow.Author.Needs.{needs}
+use lib.ListN.{length-set}
+use Rattle.reading_fill.proofs.pools.put_points.Statement.{statement}
+use Rattle.reading_fill.proofs.pools.put_points.Tie as tie
+
+abbrev Inv-loop : tie.InvT-loop
+Inv-loop xs at n out₀ w i₀ out i = Putting (2 ∷ 2 ∷ 4 ∷ []) xs at n w out₀ i out
+
+abbrev μ-loop : tie.MeasureT-loop
+μ-loop xs at n out₀ w i₀ out i = n - i
+
+loop-holds : tie.Need-loop-holds Inv-loop μ-loop
+loop-holds c = put-start _ _ _ _ _ _
+
+slice-write-out-2 : tie.Need-slice-write-out-2 Inv-loop μ-loop
+slice-write-out-2 c = simp length-set (omega arith)
+
+slice-write-out-3 : tie.Need-slice-write-out-3 Inv-loop μ-loop
+slice-write-out-3 c = simp length-set (omega arith)
+
+loop-again : tie.Need-loop-again Inv-loop μ-loop
+loop-again c =
+    let start = c .before .before .before .before .before .before .before in
+    let loop = c .before .before .before .before .loop in
+    let u16-at = c .before .before .u16-at in
+    put-turn (2 ∷ 2 ∷ 4 ∷ []) (start .args .xs .now) (start .args .at) (start .args .n) (start .args .w) _ (loop .i) (loop .out) _ (loop .inv)
+    (omega arith)
+    (point-turn (loop .out) (start .args .xs .now) (start .args .w + 3 * loop .i) (start .args .at + 8 * loop .i) _ _ _ (u16-at .ensures)
+    (c .before .u16-at2 .ensures) (c .u32-at .ensures))
+
+returns : tie.Need-returns Inv-loop μ-loop
+returns c = put-done _ _ _ _ _ _ _ _ (c .before .loop .inv) (omega arith)
+
+pub put-points-spec : {M : Type 1} → statement M
+put-points-spec =
+    tie.close
+    (tie.spec
+    Inv-loop
+    μ-loop
+    loop-holds
+    (λ c. search needs)
+    (λ c. search needs)
+    (λ c κs. search needs)
+    (λ c. search needs)
+    (λ c κs. search needs)
+    (λ c. search needs)
+    (λ c κs. search needs)
+    (λ c. search needs)
+    (λ c. search needs)
+    (λ c. search needs)
+    (λ c. search needs)
+    (λ c. search needs)
+    (λ c. search needs)
+    (λ c. search needs)
+    (λ c. search needs)
+    slice-write-out-2
+    (λ c. search needs)
+    (λ c. search needs)
+    (λ c. search needs)
+    slice-write-out-3
+    (λ c. search needs)
+    (λ c. search needs)
+    loop-again
+    (λ c. search needs)
+    returns)

@@ -1,0 +1,90 @@
+// What the head of an accepted sheet answers: the lengths of its texts and its scale, its unit, its plane corners. (01, Passport)
+ghost use mathlib.Core.Path.{_≡_};
+ghost use Prim.Native.Nat.{_≤_};
+ghost use lib.ListN.{length};
+ghost use Rattle.layout.specs.Answers.Corners.{cornerBits, planeCorners};
+ghost use Rattle.layout.specs.Answers.Enums.{headAt};
+ghost use Rattle.layout.specs.Answers.Units.{sheetUnit};
+ghost use Rattle.layout.specs.Reading.Sheets.{sheetWalk};
+ghost use Rattle.layout.specs.Sheet.{Sheet};
+ghost use Rattle.layout.specs.Walk.{outcome, ends};
+ghost use Rattle.reading_head.specs.Read.{Read, restUnit};
+use fields::numbers;
+use fields::texts;
+use layout::CornerBits;
+use layout::Corners;
+use layout::HeadAt;
+use layout::SheetUnit;
+use meanings::corners;
+use meanings::units;
+
+// The lengths of the four texts, and the scale.
+pub fn head_in(s: &[u8]) -> HeadAt
+    requires { ⌜ Read (now s) ⌝ }
+    ensures { λ r. ⌜ ((t : Sheet) → outcome (sheetWalk (now (s .entry))) ≡ ends t → r ≡ headAt (t .head)) ⌝ }
+{
+    let date = texts::text_length(numbers::part(s, 16, 12));
+    let designation = texts::text_length(numbers::part(s, 28, 32));
+    let scale = numbers::u32_at(s, 60);
+    let title = texts::text_length(numbers::part(s, 64, 32));
+    let designation2 = texts::text_length(numbers::part(s, 408, 32));
+    HeadAt {
+        date,
+        designation,
+        scale,
+        title,
+        designation2,
+    }
+}
+
+// The unit, from the 304 bytes from +96: flags, accuracy, unit and resolution.
+fn rest_unit(r: &[u8]) -> SheetUnit
+    requires { ⌜ 304 ≤ length (now r) ⌝ }
+    ensures { λ u. ⌜ u ≡ restUnit (now (r .entry)) ⌝ }
+{
+    let flags = numbers::u8_at(r, 0);
+    let resolution = numbers::u32_at(r, 216);
+    let accuracy = numbers::u8_at(r, 2);
+    let unit = numbers::u8_at(r, 140);
+    units::unit_of(flags, resolution, accuracy, unit)
+}
+
+pub fn unit_in(s: &[u8]) -> SheetUnit
+    requires { ⌜ Read (now s) ⌝ }
+    ensures { λ r. ⌜ ((t : Sheet) → outcome (sheetWalk (now (s .entry))) ≡ ends t → r ≡ sheetUnit (t .head)) ⌝ }
+{
+    rest_unit(numbers::part(s, 96, 304))
+}
+
+// The stored bits of the corners, from the same bytes.
+fn rest_corners(r: &[u8]) -> CornerBits
+    requires { ⌜ 304 ≤ length (now r) ⌝ }
+    ensures { λ b. ⌜ b ≡ cornerBits (now (r .entry)) ⌝ }
+{
+    let sw_x = numbers::u64_at(r, 8);
+    let sw_y = numbers::u64_at(r, 16);
+    let nw_x = numbers::u64_at(r, 24);
+    let nw_y = numbers::u64_at(r, 32);
+    let ne_x = numbers::u64_at(r, 40);
+    let ne_y = numbers::u64_at(r, 48);
+    let se_x = numbers::u64_at(r, 56);
+    let se_y = numbers::u64_at(r, 64);
+    CornerBits {
+        sw_x,
+        sw_y,
+        nw_x,
+        nw_y,
+        ne_x,
+        ne_y,
+        se_x,
+        se_y,
+    }
+}
+
+pub fn corners_in(s: &[u8]) -> Corners
+    requires { ⌜ Read (now s) ⌝ }
+    ensures { λ r. ⌜ ((t : Sheet) → outcome (sheetWalk (now (s .entry))) ≡ ends t → r ≡ planeCorners (t .head)) ⌝ }
+{
+    let bits = rest_corners(numbers::part(s, 96, 304));
+    corners::corners_of(bits)
+}

@@ -1,0 +1,4 @@
+-- Laws that the functions' proofs cite.
+pub mod Measured
+pub mod Emitted
+pub mod Answered

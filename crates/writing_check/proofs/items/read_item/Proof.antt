@@ -1,0 +1,25 @@
+use lib.Seq.{getD-drop}
+use native.Mathlib.Nat.{add-zero}
+use borrow.Author.Needs.{needs}
+use Rattle.writing_check.proofs.items.read_item.Statement.{statement}
+use Rattle.writing_check.proofs.items.read_item.Tie as tie
+
+returns : tie.Need-returns
+returns c = simp (getD-drop, add-zero)
+
+pub read-item-spec : {M : Type 1} → statement M
+read-item-spec =
+    tie.close
+    (tie.spec
+    (λ c. search needs)
+    (λ c. search needs)
+    (λ c. search needs)
+    (λ c. search needs)
+    (λ c. search needs)
+    (λ c. search needs)
+    (λ c. search needs)
+    (λ c. search needs)
+    (λ c. search needs)
+    (λ c. search needs)
+    (λ c. search needs)
+    returns)

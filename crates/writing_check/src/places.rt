@@ -1,0 +1,31 @@
+// Where pass 1 stands in the three slices, and the answer of each piece.
+ghost use mathlib.Core.Path.{_≡_};
+ghost use Prim.Native.Nat.{_+_, _≤_, _<_, _^_};
+ghost use Rattle.writing_check.specs.Places.{capped};
+use layout::Refusal;
+
+// The index of the next number, the places in the two pools, and how many bytes the records have so far: at most one more than the
+// limit, so that no sum of lengths wraps.
+pub struct Places {
+    pub number: usize,
+    pub element: usize,
+    pub byte: usize,
+    pub length: usize,
+}
+
+pub enum Moved {
+    Fine(Places),
+    Refused(Refusal),
+}
+
+// So many bytes more.
+pub fn longer(so_far: usize, more: usize) -> usize
+    requires { ⌜ («so_far» ≤ 16777217) × (more < 2 ^ 60) ⌝ }
+    ensures { λ r. ⌜ r ≡ capped («so_far» + more) ⌝ }
+{
+    let sum = so_far + more;
+    if sum <= 16777216 {
+        return sum;
+    }
+    16777217
+}

@@ -1,0 +1,74 @@
+// The semantic items of a record. An item has no elements, so that pool is not lent.
+ghost use mathlib.Core.List.{[], _++_};
+ghost use mathlib.Core.Path.{_≡_};
+ghost use Prim.Native.Nat.{_+_, _≤_, _<_, _^_};
+ghost use lib.ListN.{length};
+ghost use lib.Seq.{sets};
+ghost use Rattle.writing_emit.specs.Cursors.{tableOf};
+ghost use Rattle.writing_emit.specs.Pieces.{Piece, Emitted, Counted};
+ghost use Rattle.layout.specs.Bytes.{bytes as bytesOf, flat};
+ghost use Rattle.layout.specs.Layout.Encode.{encodeItem};
+ghost use Rattle.layout.specs.Layout.Fine.{FineItem};
+ghost use Rattle.layout.specs.Shared.Types.{kindOf, lengthBytes};
+ghost use Rattle.layout.specs.Writing.Tables.{joined, flattenItem};
+use crate::cursors::Cursor;
+use fields::copies;
+use fields::numbers;
+
+// Code, type and scale.
+fn put_head(out: &mut [u8], w: usize, code: u16, kind: u8, scale: u8)
+    requires { ⌜ w + 4 ≤ length (now out) ⌝ }
+    ensures { λ _. ⌜ now (out .exit) ≡ sets (now (out .entry)) w (bytesOf 2 code ++ bytesOf 1 kind ++ bytesOf 1 scale) ⌝ }
+{
+    numbers::put_u16(out, w, code);
+    numbers::put_u8(out, w + 2, kind);
+    numbers::put_u8(out, w + 3, scale);
+}
+
+// "128: scale 0xFF, then a 4-byte length". How many bytes of length there are comes back.
+fn put_length(out: &mut [u8], w: usize, kind: u8, n: usize) -> usize
+    requires { ⌜ (w + lengthBytes (kindOf kind) ≤ length (now out)) × (n < 2 ^ 32) ⌝ }
+    ensures is { λ r. ⌜ (r ≡ lengthBytes (kindOf kind)) × (r ≤ 4) ⌝ }
+    ensures wrote { λ r. ⌜ now (out .exit) ≡ sets (now (out .entry)) w (bytesOf (lengthBytes (kindOf kind)) n) ⌝ }
+{
+    if kind == 128 {
+        numbers::put_u32(out, w, n as u32);
+        return 4;
+    }
+    0
+}
+
+// An item.
+pub fn emit_item(table: &[u64], bytes: &[u8], c: Cursor, out: &mut [u8]) -> Cursor
+    requires { ⌜ Piece flattenItem FineItem encodeItem c (tableOf (now table) [] (now bytes)) (length (now out)) ⌝ }
+    ensures { λ r. ⌜ Emitted flattenItem FineItem encodeItem c (tableOf (now (table .entry)) [] (now (bytes .entry))) (now (out .entry)) (now (out .exit)) r ⌝ }
+{
+    let at = c.number;
+    let w = c.out;
+    let kind = table[at + 1] as u8;
+    let n = table[at + 3] as usize;
+    put_head(out, w, table[at] as u16, kind, table[at + 2] as u8);
+    let p = put_length(out, w + 4, kind, n);
+    copies::put_bytes(bytes, c.byte, n, out, w + 4 + p);
+    Cursor {
+        number: at + 4,
+        element: c.element,
+        byte: c.byte + n,
+        out: w + 4 + p + n,
+    }
+}
+
+// So many items.
+pub fn emit_items(table: &[u64], bytes: &[u8], n: usize, c: Cursor, out: &mut [u8]) -> Cursor
+    requires { ⌜ Piece (joined flattenItem) (Counted n FineItem) (flat encodeItem) c (tableOf (now table) [] (now bytes)) (length (now out)) ⌝ }
+    ensures { λ r. ⌜ Emitted (joined flattenItem) (Counted n FineItem) (flat encodeItem) c (tableOf (now (table .entry)) [] (now (bytes .entry)))
+        (now (out .entry)) (now (out .exit)) r ⌝ }
+{
+    let mut left = n;
+    let mut acc = c;
+    while 0 < left {
+        acc = emit_item(table, bytes, acc, out);
+        left -= 1;
+    }
+    acc
+}

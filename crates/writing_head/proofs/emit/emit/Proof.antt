@@ -1,0 +1,37 @@
+use denote.Ref.{now}
+use mathlib.Core.Path.{ap, _∙_}
+use lib.Seq.{sets}
+use Rattle.writing_head.proofs.Laws.Sofar.{first, next, start-length, name-length, descriptor-length, head-parts}
+use Rattle.layout.specs.Answers.Lent.{headOf}
+use Rattle.writing_head.specs.Heads.{startBytes, nameBytes, descriptorBytes}
+use borrow.Author.Needs.{needs}
+use Rattle.writing_head.proofs.emit.emit.Statement.{statement}
+use Rattle.writing_head.proofs.emit.emit.Tie as tie
+
+returns : tie.Need-returns
+returns c =
+    let start = c .before .before .before .before .before .before .before .before .before .before .before .before .before .before .before
+    .before .before .before .before in
+    let emit-start = c .before .before .before .before .before .before .before .before .before .before .emit-start in
+    let emit-names = c .before .before .before .before .before .before .emit-names in
+    let emit-descriptor = c .before .before .emit-descriptor in
+    let o = now (start .args .out) in
+    let date = now (start .args .date) in
+    let designation = now (start .args .designation) in
+    let scale = start .args .scale in
+    let title = now (start .args .title) in
+    let rest = now (start .args .rest) in
+    let designation2 = now (start .args .designation2) in
+    let carried = now (start .args .carried) in
+    let count = start .args .count in
+    let a = first o 0 (startBytes date) 28 _ (start-length date (start .pre .0)) (emit-start .ensures) in
+    let b = next a (nameBytes designation scale title rest) 372 _
+    (name-length designation scale title rest (start .pre .1) (start .pre .2) (start .pre .3)) (emit-names .ensures) in
+    let d = next b (descriptorBytes designation2 count carried) 52 _
+    (descriptor-length designation2 count carried (start .pre .4) (start .pre .5)) (emit-descriptor .ensures) in
+    d .is ∙ ap (λ u. sets o 0 u) (head-parts (headOf date designation scale title rest designation2 carried) count)
+
+pub emit-spec : {M : Type 1} → statement M
+emit-spec =
+    tie.close
+    (tie.spec (λ c κs. search needs) (λ c κs. search needs) (λ c κs. search needs) (λ c. search needs) returns)

@@ -1,0 +1,2 @@
+-- Only for the contracts of functions below the public calls.
+pub mod Heads

@@ -1,0 +1,53 @@
+// The writer's checks on the head, by place in the sheet.
+ghost use mathlib.Core.List.{[], _∷_};
+ghost use mathlib.Core.Path.{_≡_};
+ghost use Prim.Native.Nat.{ℕ, _≤_};
+ghost use lib.ListN.{length};
+ghost use Rattle.fields.specs.Steps.{Next};
+ghost use Rattle.fields.specs.declared.steps.Step.the-variants.{Fine};
+ghost use Rattle.writing_head.specs.Heads.{headRules};
+ghost use Rattle.layout.specs.Answers.Lent.{headOf};
+ghost use Rattle.layout.specs.Bytes.{field};
+ghost use Rattle.layout.specs.Shared.Texts.{isText, textFits};
+use fields::flags;
+use fields::steps::Step;
+use fields::steps::demand;
+use fields::texts;
+
+// Whether a field of so many bytes can hold the text: it is at least one byte shorter, and has no zero.
+fn is_text(text: &[u8], width: usize) -> bool
+    ensures { λ r. ⌜ ((place : ℕ) → r ≡ isText (field place width) (now (text .entry))) ⌝ }
+{
+    if text.len() < width {
+        return texts::text_length(text) == text.len();
+    }
+    false
+}
+
+// It is never shortened. (01, The record table: "TEXT for a text too long or with a zero")
+fn text_fits(so_far: Step, text: &[u8], place: usize, width: usize) -> Step
+    ensures { λ r. ⌜ ((y : ℕ) → Next «so_far» y 0 (textFits (field place width) (now (text .entry)) ∷ []) r) ⌝ }
+{
+    demand(so_far, is_text(text, width), 6, 0, place)
+}
+
+pub fn check(
+    date: &[u8],
+    designation: &[u8],
+    title: &[u8],
+    rest: &[u8],
+    designation2: &[u8],
+    carried: &[u8],
+    year: u32,
+) -> Step
+    requires { ⌜ (304 ≤ length (now rest)) × (4 ≤ length (now carried)) ⌝ }
+    ensures { λ r. ⌜ ((scale : ℕ) → Next Fine year 0 (headRules (headOf (now (date .entry)) (now (designation .entry)) scale (now (title .entry))
+        (now (rest .entry)) (now (designation2 .entry)) (now (carried .entry)))) r) ⌝ }
+{
+    let a = text_fits(Step::Fine, date, 16, 12);
+    let a = text_fits(a, designation, 28, 32);
+    let a = text_fits(a, title, 64, 32);
+    let a = flags::rest_of_passport(a, rest, year);
+    let a = text_fits(a, designation2, 408, 32);
+    flags::carried(a, carried, year)
+}
