@@ -12,8 +12,8 @@ use Rattle.layout.specs.Shared.Carried.{state, labelCoding, allowed, restChecks
 use Rattle.layout.specs.Walk.{Check, dated}
 use Rattle.layout.specs.Years.{since, accuracy-set, special-sorting, epsg-set, north-offset, east-offset, automatic-guid, edit-date}
 
-abbrev pub restRules : ℕ → ℕ → ℕ → ℕ → ℕ → Bool → Bool → List Check
-restRules flags labels accuracy sorting epsg north east =
+abbrev pub restBy : ℕ → ℕ → ℕ → ℕ → ℕ → Bool → Bool → List Check
+restBy flags labels accuracy sorting epsg north east =
     allowed (state flags && not (bit 2 flags)) Passport.flags
     ∷ allowed (labelCoding labels) Passport.labels
     ∷ allowed (leb accuracy 3) Passport.accuracy
@@ -25,8 +25,8 @@ restRules flags labels accuracy sorting epsg north east =
     ∷ dated east (since east-offset) (Passport.east .place)
     ∷ []
 
-abbrev pub carriedRules : ℕ → ℕ → ℕ → ℕ → List Check
-carriedRules flags labels secrecy keeping =
+abbrev pub carriedBy : ℕ → ℕ → ℕ → ℕ → List Check
+carriedBy flags labels secrecy keeping =
     allowed (state flags) Descriptor.flags
     ∷ allowed (labelCoding labels) Descriptor.labels
     ∷ allowed (leb secrecy 5) Descriptor.secrecy
@@ -35,14 +35,14 @@ carriedRules flags labels secrecy keeping =
     ∷ dated (bit 1 keeping) (since edit-date) (Descriptor.keeping .place)
     ∷ []
 
-pub rest-rules : (r : List ℕ)
-    → restRules (number 1 (drop 0 r)) (number 1 (drop 1 r)) (number 1 (drop 2 r)) (number 1 (drop 3 r)) (number 4 (drop 4 r))
+pub rest-by : (r : List ℕ)
+    → restBy (number 1 (drop 0 r)) (number 1 (drop 1 r)) (number 1 (drop 2 r)) (number 1 (drop 3 r)) (number 4 (drop 4 r))
     (not (zeros (take 8 (drop 288 r)))) (not (zeros (take 8 (drop 296 r))))
     ≡ restChecks r
 unfolding restChecks
-rest-rules r = refl
+rest-by r = refl
 
-pub carried-rules : (c : List ℕ)
-    → carriedRules (number 1 (drop 0 c)) (number 1 (drop 1 c)) (number 1 (drop 2 c)) (number 1 (drop 3 c)) ≡ carriedChecks c
+pub carried-by : (c : List ℕ)
+    → carriedBy (number 1 (drop 0 c)) (number 1 (drop 1 c)) (number 1 (drop 2 c)) (number 1 (drop 3 c)) ≡ carriedChecks c
 unfolding carriedChecks
-carried-rules c = refl
+carried-by c = refl

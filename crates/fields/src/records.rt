@@ -2,12 +2,13 @@
 ghost use mathlib.Core.Path.{_≡_};
 ghost use Rattle.layout.specs.Shared.Mark.{firstCount};
 ghost use Rattle.layout.specs.Shared.Row.{referenceNumber, referenceOf};
+use layout::sheet;
 
-// The first part's count of points: under the mark 65535 it is the word.
+// The first part's count of points: under the mark it is the word.
 pub fn first_count(points: u16, word: u32) -> u32
     ensures { λ r. ⌜ r ≡ firstCount points word ⌝ }
 {
-    if points == 65535 {
+    if points == sheet::MARK {
         return word;
     }
     points as u32

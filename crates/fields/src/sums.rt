@@ -4,9 +4,17 @@ ghost use Prim.Native.Nat.{_+_, _*_, _≤_};
 ghost use lib.ListN.{length, drop};
 ghost use Rattle.fields.specs.Sums.{SummedIn};
 ghost use Rattle.layout.specs.Bytes.{total};
+ghost use Rattle.layout.specs.Fields.Passport;
 ghost use Rattle.layout.specs.Fields.{limit};
 ghost use Rattle.layout.specs.Reading.Sheets.{sumOf};
 use crate::numbers;
+use layout::passport;
+
+// How many bytes are summed at once: the compiler sums 64 by four instructions of 16 bytes each.
+const BLOCK: usize = 64;
+
+// How far the sum goes ahead of who reads behind it: so many bytes stay in near memory.
+const STRETCH: usize = 131072;
 
 // A few bytes: within the limit their sum fits 32 bits.
 fn few(s: &[u8]) -> u32
@@ -20,13 +28,13 @@ fn few(s: &[u8]) -> u32
     sum
 }
 
-// A block of 64 bytes, which the compiler sums by four instructions of 16 bytes each.
+// The sum of one block.
 fn block(s: &[u8], at: usize) -> u32
     requires { ⌜ at + 64 ≤ length (now s) ⌝ }
     ensures { λ r. ⌜ (r + total (drop (at + 64) (now (s .entry))) ≡ total (drop at (now (s .entry)))) × (r ≤ 255 * 64) ⌝ }
 {
     let mut sum: u32 = 0;
-    for i in 0..64 {
+    for i in 0..BLOCK {
         sum += s[at + i] as u32;
     }
     sum
@@ -39,9 +47,9 @@ pub fn sum_of(s: &[u8]) -> u32
 {
     let mut sum: u32 = 0;
     let mut at: usize = 0;
-    while 64 <= s.len() - at {
+    while BLOCK <= s.len() - at {
         sum += block(s, at);
-        at += 64;
+        at += BLOCK;
     }
     sum + few(numbers::rest(s, at))
 }
@@ -73,7 +81,7 @@ pub fn sum_past(s: &[u8], so_far: Summed, at: usize) -> Summed
         return so_far;
     }
     let left = s.len() - so_far.to;
-    let stretch = at - so_far.to + 131072;
+    let stretch = at - so_far.to + STRETCH;
     if stretch < left {
         return sum_on(s, so_far, stretch);
     }
@@ -81,10 +89,10 @@ pub fn sum_past(s: &[u8], so_far: Summed, at: usize) -> Summed
 }
 
 pub fn sheet_sum(s: &[u8]) -> u32
-    requires { ⌜ (16 ≤ length (now s)) × (length (now s) ≤ limit) ⌝ }
+    requires { ⌜ (Passport.date .place ≤ length (now s)) × (length (now s) ≤ limit) ⌝ }
     ensures { λ r. ⌜ r ≡ sumOf (now (s .entry)) ⌝ }
 {
-    let head = sum_of(numbers::part(s, 0, 12));
-    let tail = sum_of(numbers::rest(s, 16));
+    let head = sum_of(numbers::part(s, 0, passport::SUM));
+    let tail = sum_of(numbers::rest(s, passport::AFTER_SUM));
     head + tail
 }

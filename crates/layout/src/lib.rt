@@ -1,7 +1,21 @@
 // What the library answers: the types of its answers, and beside them (specs/) the definitions of document 01 that say which answer
 // is given when. Nothing here runs, and nothing is relied on. Every contract of the crates above cites these definitions.
 
+pub mod bounds;
+pub mod carried;
+pub mod descriptor;
+pub mod header;
+pub mod item;
+pub mod lent;
+pub mod passport;
+pub mod pieces;
+pub mod refusals;
+pub mod rest;
+pub mod row;
+pub mod sheet;
 pub mod structs;
+pub mod subobject;
+pub mod years;
 
 // One named refusal: document 01's number, the place (a byte of the sheet, or an index of the table), and the year, which is 0
 // except for TOO NEW.

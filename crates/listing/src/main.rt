@@ -7,6 +7,7 @@ use layout::Checked;
 use layout::Found;
 use layout::RecordAt;
 use layout::Refusal;
+use layout::refusals::TOO_LONG;
 use reading::setting::Setting;
 
 fn number(n: u64) {
@@ -76,7 +77,7 @@ fn main() {
     let m = io::read_full(0, &mut more);
     if 0 < m {
         refused(Refusal {
-            number: 1,
+            number: TOO_LONG,
             place: 0,
             year: 0,
         });

@@ -6,6 +6,7 @@ ghost use mathlib.Core.Path.{_≡_};
 use layout::CornerBits;
 use layout::Corners;
 use layout::PlaneCorners;
+use layout::passport;
 
 // Whether the bits are a NaN's: all that lie above an infinity's, without the sign.
 pub fn not_number(bits: u64) -> bool
@@ -26,14 +27,14 @@ fn place_or(bits: u64, place: usize, later: usize) -> usize
 fn first_none(b: CornerBits) -> usize
     ensures { λ r. ⌜ r ≡ firstNone b ⌝ }
 {
-    let p = place_or(b.se_y, 160, 0);
-    let p = place_or(b.se_x, 152, p);
-    let p = place_or(b.ne_y, 144, p);
-    let p = place_or(b.ne_x, 136, p);
-    let p = place_or(b.nw_y, 128, p);
-    let p = place_or(b.nw_x, 120, p);
-    let p = place_or(b.sw_y, 112, p);
-    place_or(b.sw_x, 104, p)
+    let p = place_or(b.se_y, passport::SE_Y, 0);
+    let p = place_or(b.se_x, passport::SE_X, p);
+    let p = place_or(b.ne_y, passport::NE_Y, p);
+    let p = place_or(b.ne_x, passport::NE_X, p);
+    let p = place_or(b.nw_y, passport::NW_Y, p);
+    let p = place_or(b.nw_x, passport::NW_X, p);
+    let p = place_or(b.sw_y, passport::SW_Y, p);
+    place_or(b.sw_x, passport::SW_X, p)
 }
 
 pub fn corners_of(b: CornerBits) -> Corners

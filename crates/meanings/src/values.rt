@@ -6,6 +6,8 @@ use crate::numbers::signed;
 use layout::Decimal;
 use layout::Refusal;
 use layout::SemanticValue;
+use layout::item;
+use layout::refusals::SEMANTIC;
 
 // An integer of the bits whose top bit weighs half.
 fn integer(bits: u32, half: u32, scale: u8) -> SemanticValue
@@ -13,8 +15,8 @@ fn integer(bits: u32, half: u32, scale: u8) -> SemanticValue
 {
     if scale == 0x80 {
         return SemanticValue::Refused(Refusal {
-            number: 12,
-            place: 3,
+            number: SEMANTIC,
+            place: item::SCALE,
             year: 0,
         });
     }

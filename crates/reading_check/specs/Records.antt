@@ -57,8 +57,8 @@ countRules h =
     ∷ must (not (isMark (h .points)) || leb mark (h .word)) COUNT (Field.word .place)
     ∷ []
 
-abbrev pub headerRules : ℕ → Header → List Check
-headerRules left h =
+abbrev pub headerChecks : ℕ → Header → List Check
+headerChecks left h =
     lengthRules left h
     ++ (referenceChecks (Field.byte20 .place) (Field.byte21 .place) (Field.byte22 .place) (referenceOf h) ++ countRules h)
 

@@ -21,6 +21,12 @@ use fields::steps::demand;
 use fields::steps::feature;
 use fields::texts;
 use layout::Refusal;
+use layout::item;
+use layout::refusals::LENGTH;
+use layout::refusals::SEMANTIC;
+use layout::refusals::TEXT;
+use layout::row;
+use layout::years;
 
 // What follows from an item's type and scale byte: where its value starts, how long it is unless that stands before it, and how many
 // closing zeros it has.
@@ -41,7 +47,7 @@ fn plain(good_scale: bool, size: usize, closing: usize) -> Shape
         known: true,
         long: false,
         good_scale,
-        at: 4,
+        at: item::SIZE,
         size,
         closing,
     }
@@ -68,7 +74,7 @@ fn shape_of(t: u8, scale: u8) -> Shape
             known: true,
             long: true,
             good_scale: scale == 0xFF,
-            at: 8,
+            at: item::LONG_SIZE,
             size: 0,
             closing: 2,
         };
@@ -77,7 +83,7 @@ fn shape_of(t: u8, scale: u8) -> Shape
         known: false,
         long: false,
         good_scale: true,
-        at: 4,
+        at: item::SIZE,
         size: 0,
         closing: 0,
     }
@@ -88,10 +94,10 @@ fn shape_checks(k: Shape, p: usize, n: usize, year: u32) -> Step
     requires { ⌜ p < 2 ^ 32 ⌝ }
     ensures { λ r. ⌜ Next Fine year p (shapeChecks k n) r ⌝ }
 {
-    let a = demand(Step::Fine, k.known, 12, p, 2);
-    let a = feature(a, k.long, 2012, p, 2, year);
-    let a = demand(a, k.good_scale, 12, p, 3);
-    demand(a, k.at <= n, 10, p, 0)
+    let a = demand(Step::Fine, k.known, SEMANTIC, p, item::TYPE);
+    let a = feature(a, k.long, years::TYPE_128, p, item::TYPE, year);
+    let a = demand(a, k.good_scale, SEMANTIC, p, item::SCALE);
+    demand(a, k.at <= n, LENGTH, p, 0)
 }
 
 // How long the value is.
@@ -100,7 +106,7 @@ fn value_size(xs: &[u8], k: Shape) -> usize
     ensures { λ r. ⌜ (r ≡ valueSize (now (xs .entry))) × (r < 2 ^ 32) ⌝ }
 {
     if k.long {
-        return numbers::u32_at(xs, 4) as usize;
+        return numbers::u32_at(xs, item::LONG_LENGTH) as usize;
     }
     k.size
 }
@@ -116,7 +122,7 @@ fn value(xs: &[u8], p: usize, k: Shape) -> Counted
         let used = k.at + size;
         if xs.len() < used {
             return Counted::Refused(Refusal {
-                number: 10,
+                number: LENGTH,
                 place: p,
                 year: 0,
             });
@@ -126,20 +132,20 @@ fn value(xs: &[u8], p: usize, k: Shape) -> Counted
         if texts::all_zero(numbers::part(xs, end, closing)) {
             return Counted::Fine(Tally {
                 used,
-                numbers: 4,
+                numbers: row::ITEM_WIDTH,
                 elements: 0,
                 bytes: size,
             });
         }
         return Counted::Refused(Refusal {
-            number: 6,
+            number: TEXT,
             place: p + end,
             year: 0,
         });
     }
     Counted::Refused(Refusal {
-        number: 12,
-        place: p + 4,
+        number: SEMANTIC,
+        place: p + item::LONG_LENGTH,
         year: 0,
     })
 }
@@ -150,14 +156,17 @@ pub fn item(xs: &[u8], p: usize, year: u32) -> Counted
     ensures means { λ r. ⌜ r ≡ shown (tally flattenItem) year (itemWalk p (now (xs .entry))) ⌝ }
     ensures within { λ r. ⌜ Within (length (now (xs .entry))) 0 r ⌝ }
 {
-    if xs.len() < 4 {
+    if xs.len() < item::SIZE {
         return Counted::Refused(Refusal {
-            number: 10,
+            number: LENGTH,
             place: p,
             year: 0,
         });
     }
-    let k = shape_of(numbers::u8_at(xs, 2), numbers::u8_at(xs, 3));
+    let k = shape_of(
+        numbers::u8_at(xs, item::TYPE),
+        numbers::u8_at(xs, item::SCALE),
+    );
     match shape_checks(k, p, xs.len(), year) {
         Step::Fine => value(xs, p, k),
         Step::Refused(r) => Counted::Refused(r),

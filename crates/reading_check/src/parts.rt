@@ -13,6 +13,11 @@ use crate::tally::sum;
 use fields::numbers;
 use fields::shapes;
 use layout::Refusal;
+use layout::refusals::COUNT;
+use layout::refusals::LENGTH;
+use layout::refusals::TEXT;
+use layout::row;
+use layout::subobject;
 
 // A text: its length, its bytes and its closing zero.
 fn text_of(xs: &[u8], p: usize) -> Counted
@@ -22,7 +27,7 @@ fn text_of(xs: &[u8], p: usize) -> Counted
 {
     if xs.len() < 1 {
         return Counted::Refused(Refusal {
-            number: 10,
+            number: LENGTH,
             place: p,
             year: 0,
         });
@@ -30,7 +35,7 @@ fn text_of(xs: &[u8], p: usize) -> Counted
     let n = numbers::u8_at(xs, 0) as usize;
     if xs.len() < n + 2 {
         return Counted::Refused(Refusal {
-            number: 10,
+            number: LENGTH,
             place: p,
             year: 0,
         });
@@ -44,7 +49,7 @@ fn text_of(xs: &[u8], p: usize) -> Counted
         });
     }
     Counted::Refused(Refusal {
-        number: 6,
+        number: TEXT,
         place: p + (n + 1),
         year: 0,
     })
@@ -77,7 +82,7 @@ pub fn part(xs: &[u8], p: usize, count: usize, b20: u8, b21: u8, b22: u8) -> Cou
     let size = count * shapes::point_size(s);
     if xs.len() < size {
         return Counted::Refused(Refusal {
-            number: 10,
+            number: LENGTH,
             place: p,
             year: 0,
         });
@@ -86,7 +91,7 @@ pub fn part(xs: &[u8], p: usize, count: usize, b20: u8, b21: u8, b22: u8) -> Cou
     match text_end(&xs[size..], p + size, s.text) {
         Counted::Fine(t) => Counted::Fine(Tally {
             used: size + t.used,
-            numbers: 2,
+            numbers: row::PART_WIDTH,
             elements,
             bytes: t.bytes,
         }),
@@ -100,19 +105,26 @@ pub fn subobject(xs: &[u8], p: usize, marked: bool, b20: u8, b21: u8, b22: u8) -
     ensures means { λ r. ⌜ ((y : ℕ) → r ≡ shown (tally flattenPart) y (subobjectWalk (record { byte20 = b20; byte21 = b21; byte22 = b22 }) marked p (now (xs .entry)))) ⌝ }
     ensures within { λ r. ⌜ Within (length (now (xs .entry))) 0 r ⌝ }
 {
-    if xs.len() < 4 {
+    if xs.len() < subobject::SIZE {
         return Counted::Refused(Refusal {
-            number: 10,
+            number: LENGTH,
             place: p,
             year: 0,
         });
     }
-    let n1 = numbers::u16_at(xs, 0) as usize;
-    let n2 = numbers::u16_at(xs, 2) as usize;
+    let n1 = numbers::u16_at(xs, subobject::N1) as usize;
+    let n2 = numbers::u16_at(xs, subobject::N2) as usize;
     if marked | (n1 == 0) {
-        return match part(&xs[4..], p + 4, n2 + 65536 * n1, b20, b21, b22) {
+        return match part(
+            &xs[subobject::SIZE..],
+            p + subobject::SIZE,
+            n2 + subobject::UPPER * n1,
+            b20,
+            b21,
+            b22,
+        ) {
             Counted::Fine(t) => Counted::Fine(Tally {
-                used: 4 + t.used,
+                used: subobject::SIZE + t.used,
                 numbers: t.numbers,
                 elements: t.elements,
                 bytes: t.bytes,
@@ -121,7 +133,7 @@ pub fn subobject(xs: &[u8], p: usize, marked: bool, b20: u8, b21: u8, b22: u8) -
         };
     }
     Counted::Refused(Refusal {
-        number: 11,
+        number: COUNT,
         place: p,
         year: 0,
     })
@@ -202,7 +214,7 @@ pub fn metric(
             let used = all.used;
             if used < xs.len() {
                 return Counted::Refused(Refusal {
-                    number: 10,
+                    number: LENGTH,
                     place: p + used,
                     year: 0,
                 });

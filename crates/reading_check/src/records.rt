@@ -23,6 +23,11 @@ use fields::steps::Step;
 use fields::sums::Summed;
 use fields::sums::sum_past;
 use layout::Refusal;
+use layout::header;
+use layout::refusals::LENGTH;
+use layout::refusals::SHORT;
+use layout::row;
+use layout::sheet;
 
 // What fills a record after its metric, where front is counted before it.
 fn semantics(xs: &[u8], p: usize, flag: bool, front: Tally, year: u32) -> Counted
@@ -37,7 +42,7 @@ fn semantics(xs: &[u8], p: usize, flag: bool, front: Tally, year: u32) -> Counte
         };
     }
     Counted::Refused(Refusal {
-        number: 10,
+        number: LENGTH,
         place: p,
         year: 0,
     })
@@ -49,13 +54,13 @@ fn rest(xs: &[u8], p: usize, h: Header, year: u32) -> Counted
     ensures means { λ r. ⌜ r ≡ shown (tally flattenRecord) year (restWalk p (now (xs .entry))) ⌝ }
     ensures within { λ r. ⌜ Within (length (now (xs .entry))) 0 r ⌝ }
 {
-    let end = 32 + h.metric as usize;
+    let end = header::SIZE + h.metric as usize;
     let total = h.total as usize;
     let count = first_count(h.points, h.word) as usize;
-    let marked = h.points == 65535;
+    let marked = h.points == sheet::MARK;
     match parts::metric(
-        &xs[32..end],
-        p + 32,
+        &xs[header::SIZE..end],
+        p + header::SIZE,
         count,
         h.subobjects,
         marked,
@@ -66,8 +71,8 @@ fn rest(xs: &[u8], p: usize, h: Header, year: u32) -> Counted
         Counted::Fine(m) => {
             let front = sum(
                 Tally {
-                    used: 32,
-                    numbers: 8,
+                    used: header::SIZE,
+                    numbers: row::WIDTH,
                     elements: 0,
                     bytes: 0,
                 },
@@ -85,9 +90,9 @@ fn one_record(xs: &[u8], p: usize, year: u32) -> Counted
     ensures means { λ r. ⌜ r ≡ shown (tally flattenRecord) year (recordWalk p (now (xs .entry))) ⌝ }
     ensures within { λ r. ⌜ Within (length (now (xs .entry))) 0 r ⌝ }
 {
-    if xs.len() < 32 {
+    if xs.len() < header::SIZE {
         return Counted::Refused(Refusal {
-            number: 2,
+            number: SHORT,
             place: p,
             year: 0,
         });
@@ -143,15 +148,18 @@ fn with_sum(xs: &[u8], summed: Summed, counted: Counted) -> Walked
     }
 }
 
-// 64 records, or those that are left.
+// How many records are checked behind the sum before it goes on.
+const BATCH: u32 = 64;
+
+// A batch of records, or those that are left.
 fn batch(left: u32) -> u32
     requires { ⌜ 0 < left ⌝ }
     ensures { λ r. ⌜ (r ≤ left) × (0 < r) ⌝ }
 {
-    if left < 64 {
+    if left < BATCH {
         return left;
     }
-    64
+    BATCH
 }
 
 // So many records, and the sum of all bytes, in one pass: the sum goes ahead, and a batch of records is checked behind it while their

@@ -11,7 +11,7 @@ ghost use Rattle.fields.specs.declared.steps.Step.the-variants.{Fine};
 ghost use Rattle.layout.specs.Answers.Enums.{checkedOf};
 ghost use Rattle.layout.specs.Bytes.{number, total};
 ghost use Rattle.layout.specs.Fields.{limit};
-ghost use Rattle.layout.specs.Reading.Sheets.{sumOf, passportChecks, sheetWalk};
+ghost use Rattle.layout.specs.Reading.Sheets.{sumOf, passportChecks, sheetWalk, start};
 ghost use Rattle.layout.specs.Shared.Texts.{isTextField};
 ghost use Rattle.layout.specs.Walk.{must, answer, upTo};
 ghost use Rattle.layout.specs.Writing.Tables.{joined, flattenRecord};
@@ -26,6 +26,12 @@ use fields::texts;
 use layout::Checked;
 use layout::Refusal;
 use layout::Sizes;
+use layout::descriptor;
+use layout::passport;
+use layout::refusals::LEFT_OVER;
+use layout::refusals::SHORT;
+use layout::refusals::TOO_LONG;
+use layout::sheet;
 use reading_head::check;
 
 // A sheet whose head was let through, with what was counted of its records.
@@ -36,16 +42,16 @@ fn check_records(s: &[u8], counted: Counted, year: u32) -> Checked
     match counted {
         Counted::Fine(t) => {
             let used = t.used;
-            if used < s.len() - 452 {
+            if used < s.len() - sheet::START {
                 return Checked::Refused(Refusal {
-                    number: 13,
-                    place: 452 + used,
+                    number: LEFT_OVER,
+                    place: sheet::START + used,
                     year: 0,
                 });
             }
             Checked::Accepted(Sizes {
-                sum: numbers::u32_at(s, 12),
-                records: numbers::u32_at(s, 440),
+                sum: numbers::u32_at(s, passport::SUM),
+                records: numbers::u32_at(s, descriptor::COUNT),
                 numbers: t.numbers,
                 elements: t.elements,
                 bytes: t.bytes,
@@ -58,10 +64,15 @@ fn check_records(s: &[u8], counted: Counted, year: u32) -> Checked
 // A sheet that is neither too long nor too short. Its records are walked before the checks on its head, since the sum, which the head
 // states, is of all bytes: so the sheet is gone over once.
 fn check_whole(s: &[u8], year: u32) -> Checked
-    requires { ⌜ (452 ≤ length (now s)) × (length (now s) ≤ limit) ⌝ }
+    requires { ⌜ (start ≤ length (now s)) × (length (now s) ≤ limit) ⌝ }
     ensures { λ r. ⌜ r ≡ checkedOf (answer (upTo year) (sheetWalk (now (s .entry)))) ⌝ }
 {
-    let walked = records::walk(&s[452..], 452, numbers::u32_at(s, 440), year);
+    let walked = records::walk(
+        &s[sheet::START..],
+        sheet::START,
+        numbers::u32_at(s, descriptor::COUNT),
+        year,
+    );
     let counted = walked.counted;
     match check::check(s, check::head_sum(s) + walked.sum, year) {
         Step::Fine => check_records(s, counted, year),
@@ -73,16 +84,16 @@ fn check_whole(s: &[u8], year: u32) -> Checked
 pub fn check(s: &[u8], year: u32) -> Checked
     ensures { λ r. ⌜ r ≡ checkedOf (answer (upTo year) (sheetWalk (now (s .entry)))) ⌝ }
 {
-    if 16777216 < s.len() {
+    if sheet::LIMIT < s.len() {
         return Checked::Refused(Refusal {
-            number: 1,
+            number: TOO_LONG,
             place: 0,
             year: 0,
         });
     }
-    if s.len() < 452 {
+    if s.len() < sheet::START {
         return Checked::Refused(Refusal {
-            number: 2,
+            number: SHORT,
             place: 0,
             year: 0,
         });

@@ -13,15 +13,17 @@ use crate::cursors::Cursor;
 use crate::rows;
 use fields::copies;
 use fields::numbers;
+use layout::item;
+use layout::row;
 
 // Where the value of an item of a type starts.
 fn value_place(kind: u8) -> usize
     ensures { λ r. ⌜ (r ≡ valueAt (kindOf kind)) × (r ≤ 8) ⌝ }
 {
     if kind == 128 {
-        return 8;
+        return item::LONG_SIZE;
     }
-    4
+    item::SIZE
 }
 
 // The length of the value of the item at a place, by its type and scale.
@@ -42,7 +44,7 @@ fn value_length(xs: &[u8], at: usize, kind: u8, scale: u8) -> usize
         return 8;
     }
     if kind == 128 {
-        return numbers::u32_at(xs, at + 4) as usize;
+        return numbers::u32_at(xs, at + item::LONG_LENGTH) as usize;
     }
     0
 }
@@ -59,15 +61,15 @@ pub fn fill_item(xs: &[u8], c: Cursor, table: &mut [u64], bytes: &mut [u8]) -> C
     let w = c.numbers;
     let b = c.bytes;
     let code = numbers::u16_at(xs, at);
-    let kind = numbers::u8_at(xs, at + 2);
-    let scale = numbers::u8_at(xs, at + 3);
+    let kind = numbers::u8_at(xs, at + item::TYPE);
+    let scale = numbers::u8_at(xs, at + item::SCALE);
     let p = value_place(kind);
     let n = value_length(xs, at, kind, scale);
     copies::put_bytes(xs, at + p, n, bytes, b);
     rows::put_item(table, w, code, kind, scale, n);
     Cursor {
         place: at + p + n,
-        numbers: w + 4,
+        numbers: w + row::ITEM_WIDTH,
         elements: c.elements,
         bytes: b + n,
     }

@@ -16,6 +16,8 @@ use fields::copies;
 use fields::numbers;
 use fields::shapes;
 use fields::shapes::Shape;
+use layout::row;
+use layout::subobject;
 
 // The elements of so many points.
 pub fn put_elements(xs: &[u8], at: usize, count: usize, s: Shape, out: &mut [u64], w: usize)
@@ -91,7 +93,7 @@ pub fn fill_part(
     let t = text_size(s.text, l);
     Cursor {
         place: at + size + t,
-        numbers: w + 2,
+        numbers: w + row::PART_WIDTH,
         elements: e + n,
         bytes: b + l,
     }
@@ -114,14 +116,14 @@ pub fn fill_subobject(
 {
     let at = c.place;
     let n1 = numbers::u16_at(xs, at) as usize;
-    let n2 = numbers::u16_at(xs, at + 2) as usize;
+    let n2 = numbers::u16_at(xs, at + subobject::N2) as usize;
     let d = Cursor {
-        place: at + 4,
+        place: at + subobject::SIZE,
         numbers: c.numbers,
         elements: c.elements,
         bytes: c.bytes,
     };
-    fill_part(xs, s, n2 + 65536 * n1, d, table, elements, bytes)
+    fill_part(xs, s, n2 + subobject::UPPER * n1, d, table, elements, bytes)
 }
 
 // So many later parts.

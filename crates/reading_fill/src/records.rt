@@ -4,10 +4,12 @@ ghost use mathlib.Core.Path.{_≡_};
 ghost use Prim.Native.Nat.{_+_, _≤_, _<_, _^_};
 ghost use lib.ListN.{length, drop};
 ghost use lib.Seq.{sets};
+ghost use Rattle.layout.specs.Fields.Header;
 ghost use Rattle.reading_fill.specs.Cursors.{ahead, moved, Room, Wrote};
 ghost use Rattle.reading_fill.specs.Pieces.{Each};
 ghost use Rattle.reading_fill.specs.Records.{recordIn, recordSize, recordsIn, recordsSize, metricSize, metricTable, partsSizeIn, partsTableIn, itemsSizeIn, itemsTableIn, rowOf, RecordFits, inside};
 ghost use Rattle.layout.specs.Reading.Records.{headerIn, semanticsIn};
+ghost use Rattle.layout.specs.Shared.Row.{rowWidth};
 ghost use Rattle.layout.specs.Writing.Tables.{joined, flattenRecord};
 use crate::cursors::Cursor;
 use crate::items;
@@ -18,6 +20,8 @@ use fields::records::first_count;
 use fields::records::reference_number;
 use fields::shapes;
 use fields::shapes::Shape;
+use layout::header;
+use layout::row;
 
 // The first part, and so many later ones.
 fn fill_metric(
@@ -50,28 +54,28 @@ fn record_metric(
 ) -> Cursor
     requires { ⌜ Room (inside c) (partsSizeIn (ahead c (now xs))) (partsTableIn (ahead c (now xs)))
         (headerIn (ahead c (now xs)) .metric) (length (now table)) (length (now elements)) (length (now bytes))
-        × (c .place + (32 + headerIn (ahead c (now xs)) .metric) ≤ length (now xs)) ⌝ }
+        × (c .place + (Header.size + headerIn (ahead c (now xs)) .metric) ≤ length (now xs)) ⌝ }
     ensures is { λ r. ⌜ r ≡ moved (inside c) (partsSizeIn (ahead c (now (xs .entry)))) (partsTableIn (ahead c (now (xs .entry)))) ⌝ }
     ensures wrote { λ r. ⌜ Wrote (inside c) (partsTableIn (ahead c (now (xs .entry))))
         (now (table .entry)) (now (elements .entry)) (now (bytes .entry)) (now (table .exit)) (now (elements .exit)) (now (bytes .exit)) ⌝ }
 {
     let at = c.place;
-    let metric = numbers::u32_at(xs, at + 8) as usize;
+    let metric = numbers::u32_at(xs, at + header::METRIC) as usize;
     let s = shapes::shape_of(
-        numbers::u8_at(xs, at + 20),
-        numbers::u8_at(xs, at + 21),
-        numbers::u8_at(xs, at + 22),
+        numbers::u8_at(xs, at + header::BYTE20),
+        numbers::u8_at(xs, at + header::BYTE21),
+        numbers::u8_at(xs, at + header::BYTE22),
     );
-    let word = numbers::u32_at(xs, at + 24);
-    let n = numbers::u16_at(xs, at + 28) as usize;
-    let count = first_count(numbers::u16_at(xs, at + 30), word) as usize;
+    let word = numbers::u32_at(xs, at + header::WORD);
+    let n = numbers::u16_at(xs, at + header::SUBOBJECTS) as usize;
+    let count = first_count(numbers::u16_at(xs, at + header::POINTS), word) as usize;
     let d = Cursor {
         place: 0,
         numbers: c.numbers,
         elements: c.elements,
         bytes: c.bytes,
     };
-    let ys = numbers::part(xs, at + 32, metric);
+    let ys = numbers::part(xs, at + header::SIZE, metric);
     fill_metric(ys, s, count, n, d, table, elements, bytes)
 }
 
@@ -79,40 +83,44 @@ fn record_metric(
 fn record_items(xs: &[u8], c: Cursor, table: &mut [u64], bytes: &mut [u8]) -> Cursor
     requires { ⌜ Room (inside c) (itemsSizeIn (ahead c (now xs))) (itemsTableIn (ahead c (now xs)))
         (length (semanticsIn (headerIn (ahead c (now xs))) (ahead c (now xs)))) (length (now table)) (c .elements) (length (now bytes))
-        × (32 + headerIn (ahead c (now xs)) .metric ≤ headerIn (ahead c (now xs)) .total) × (c .place + headerIn (ahead c (now xs)) .total ≤ length (now xs)) ⌝ }
+        × (Header.size + headerIn (ahead c (now xs)) .metric ≤ headerIn (ahead c (now xs)) .total) × (c .place + headerIn (ahead c (now xs)) .total ≤ length (now xs)) ⌝ }
     ensures is { λ r. ⌜ r ≡ moved (inside c) (itemsSizeIn (ahead c (now (xs .entry)))) (itemsTableIn (ahead c (now (xs .entry)))) ⌝ }
     ensures wrote { λ r. ⌜ Wrote (inside c) (itemsTableIn (ahead c (now (xs .entry))))
         (now (table .entry)) [] (now (bytes .entry)) (now (table .exit)) [] (now (bytes .exit)) ⌝ }
 {
     let at = c.place;
-    let total = numbers::u32_at(xs, at + 4) as usize;
-    let metric = numbers::u32_at(xs, at + 8) as usize;
+    let total = numbers::u32_at(xs, at + header::TOTAL) as usize;
+    let metric = numbers::u32_at(xs, at + header::METRIC) as usize;
     let d = Cursor {
         place: 0,
         numbers: c.numbers,
         elements: c.elements,
         bytes: c.bytes,
     };
-    let ys = numbers::part(xs, at + 32 + metric, total - 32 - metric);
+    let ys = numbers::part(
+        xs,
+        at + header::SIZE + metric,
+        total - header::SIZE - metric,
+    );
     items::fill_items(ys, d, table, bytes)
 }
 
 // The eight numbers of the record at a place that has so many items.
 fn put_header(xs: &[u8], at: usize, n: usize, out: &mut [u64], w: usize)
-    requires { ⌜ (at + 32 ≤ length (now xs)) × (w + 8 ≤ length (now out)) ⌝ }
+    requires { ⌜ (at + Header.size ≤ length (now xs)) × (w + rowWidth ≤ length (now out)) ⌝ }
     ensures { λ _. ⌜ now (out .exit) ≡ sets (now (out .entry)) w (rowOf (headerIn (drop at (now (xs .entry)))) n) ⌝ }
 {
-    let code = numbers::u32_at(xs, at + 12);
-    let in_group = numbers::u16_at(xs, at + 16);
-    let group = numbers::u16_at(xs, at + 18);
+    let code = numbers::u32_at(xs, at + header::CODE);
+    let in_group = numbers::u16_at(xs, at + header::IN_GROUP);
+    let group = numbers::u16_at(xs, at + header::GROUP);
     let reference = reference_number(
-        numbers::u8_at(xs, at + 20),
-        numbers::u8_at(xs, at + 21),
-        numbers::u8_at(xs, at + 22),
+        numbers::u8_at(xs, at + header::BYTE20),
+        numbers::u8_at(xs, at + header::BYTE21),
+        numbers::u8_at(xs, at + header::BYTE22),
     );
-    let generalisation = numbers::u8_at(xs, at + 23);
-    let word = numbers::u32_at(xs, at + 24);
-    let subobjects = numbers::u16_at(xs, at + 28) as usize;
+    let generalisation = numbers::u8_at(xs, at + header::GENERALISATION);
+    let word = numbers::u32_at(xs, at + header::WORD);
+    let subobjects = numbers::u16_at(xs, at + header::SUBOBJECTS) as usize;
     rows::put_record(
         out,
         w,
@@ -143,10 +151,10 @@ pub fn fill_record(
 {
     let at = c.place;
     let w = c.numbers;
-    let total = numbers::u32_at(xs, at + 4) as usize;
+    let total = numbers::u32_at(xs, at + header::TOTAL) as usize;
     let past = Cursor {
         place: at,
-        numbers: w + 8,
+        numbers: w + row::WIDTH,
         elements: c.elements,
         bytes: c.bytes,
     };
@@ -158,7 +166,7 @@ pub fn fill_record(
         bytes: d.bytes,
     };
     let e = record_items(xs, behind, table, bytes);
-    put_header(xs, at, (e.numbers - d.numbers) / 4, table, w);
+    put_header(xs, at, (e.numbers - d.numbers) / row::ITEM_WIDTH, table, w);
     Cursor {
         place: at + total,
         numbers: e.numbers,

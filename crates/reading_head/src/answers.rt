@@ -5,6 +5,7 @@ ghost use lib.ListN.{length};
 ghost use Rattle.layout.specs.Answers.Corners.{cornerBits, planeCorners};
 ghost use Rattle.layout.specs.Answers.Enums.{headAt};
 ghost use Rattle.layout.specs.Answers.Units.{sheetUnit};
+ghost use Rattle.layout.specs.Fields.Passport;
 ghost use Rattle.layout.specs.Reading.Sheets.{sheetWalk};
 ghost use Rattle.layout.specs.Sheet.{Sheet};
 ghost use Rattle.layout.specs.Walk.{outcome, ends};
@@ -15,6 +16,9 @@ use layout::CornerBits;
 use layout::Corners;
 use layout::HeadAt;
 use layout::SheetUnit;
+use layout::descriptor;
+use layout::passport;
+use layout::rest;
 use meanings::corners;
 use meanings::units;
 
@@ -23,11 +27,19 @@ pub fn head_in(s: &[u8]) -> HeadAt
     requires { ⌜ Read (now s) ⌝ }
     ensures { λ r. ⌜ ((t : Sheet) → outcome (sheetWalk (now (s .entry))) ≡ ends t → r ≡ headAt (t .head)) ⌝ }
 {
-    let date = texts::text_length(numbers::part(s, 16, 12));
-    let designation = texts::text_length(numbers::part(s, 28, 32));
-    let scale = numbers::u32_at(s, 60);
-    let title = texts::text_length(numbers::part(s, 64, 32));
-    let designation2 = texts::text_length(numbers::part(s, 408, 32));
+    let date = texts::text_length(numbers::part(s, passport::DATE, passport::DATE_WIDTH));
+    let designation = texts::text_length(numbers::part(
+        s,
+        passport::DESIGNATION,
+        passport::DESIGNATION_WIDTH,
+    ));
+    let scale = numbers::u32_at(s, passport::SCALE);
+    let title = texts::text_length(numbers::part(s, passport::TITLE, passport::TITLE_WIDTH));
+    let designation2 = texts::text_length(numbers::part(
+        s,
+        descriptor::DESIGNATION,
+        descriptor::DESIGNATION_WIDTH,
+    ));
     HeadAt {
         date,
         designation,
@@ -39,13 +51,13 @@ pub fn head_in(s: &[u8]) -> HeadAt
 
 // The unit, from the 304 bytes from +96: flags, accuracy, unit and resolution.
 fn rest_unit(r: &[u8]) -> SheetUnit
-    requires { ⌜ 304 ≤ length (now r) ⌝ }
+    requires { ⌜ Passport.rest .width ≤ length (now r) ⌝ }
     ensures { λ u. ⌜ u ≡ restUnit (now (r .entry)) ⌝ }
 {
-    let flags = numbers::u8_at(r, 0);
-    let resolution = numbers::u32_at(r, 216);
-    let accuracy = numbers::u8_at(r, 2);
-    let unit = numbers::u8_at(r, 140);
+    let flags = numbers::u8_at(r, rest::FLAGS);
+    let resolution = numbers::u32_at(r, rest::RESOLUTION);
+    let accuracy = numbers::u8_at(r, rest::ACCURACY);
+    let unit = numbers::u8_at(r, rest::UNIT);
     units::unit_of(flags, resolution, accuracy, unit)
 }
 
@@ -53,22 +65,22 @@ pub fn unit_in(s: &[u8]) -> SheetUnit
     requires { ⌜ Read (now s) ⌝ }
     ensures { λ r. ⌜ ((t : Sheet) → outcome (sheetWalk (now (s .entry))) ≡ ends t → r ≡ sheetUnit (t .head)) ⌝ }
 {
-    rest_unit(numbers::part(s, 96, 304))
+    rest_unit(numbers::part(s, passport::REST, passport::REST_WIDTH))
 }
 
 // The stored bits of the corners, from the same bytes.
 fn rest_corners(r: &[u8]) -> CornerBits
-    requires { ⌜ 304 ≤ length (now r) ⌝ }
+    requires { ⌜ Passport.rest .width ≤ length (now r) ⌝ }
     ensures { λ b. ⌜ b ≡ cornerBits (now (r .entry)) ⌝ }
 {
-    let sw_x = numbers::u64_at(r, 8);
-    let sw_y = numbers::u64_at(r, 16);
-    let nw_x = numbers::u64_at(r, 24);
-    let nw_y = numbers::u64_at(r, 32);
-    let ne_x = numbers::u64_at(r, 40);
-    let ne_y = numbers::u64_at(r, 48);
-    let se_x = numbers::u64_at(r, 56);
-    let se_y = numbers::u64_at(r, 64);
+    let sw_x = numbers::u64_at(r, rest::SW_X);
+    let sw_y = numbers::u64_at(r, rest::SW_Y);
+    let nw_x = numbers::u64_at(r, rest::NW_X);
+    let nw_y = numbers::u64_at(r, rest::NW_Y);
+    let ne_x = numbers::u64_at(r, rest::NE_X);
+    let ne_y = numbers::u64_at(r, rest::NE_Y);
+    let se_x = numbers::u64_at(r, rest::SE_X);
+    let se_y = numbers::u64_at(r, rest::SE_Y);
     CornerBits {
         sw_x,
         sw_y,
@@ -85,6 +97,6 @@ pub fn corners_in(s: &[u8]) -> Corners
     requires { ⌜ Read (now s) ⌝ }
     ensures { λ r. ⌜ ((t : Sheet) → outcome (sheetWalk (now (s .entry))) ≡ ends t → r ≡ planeCorners (t .head)) ⌝ }
 {
-    let bits = rest_corners(numbers::part(s, 96, 304));
+    let bits = rest_corners(numbers::part(s, passport::REST, passport::REST_WIDTH));
     corners::corners_of(bits)
 }

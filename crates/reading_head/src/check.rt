@@ -8,7 +8,8 @@ ghost use Rattle.fields.specs.Steps.{Next};
 ghost use Rattle.fields.specs.declared.steps.Step.the-variants.{Fine};
 ghost use Rattle.layout.specs.Bytes.{number, total};
 ghost use Rattle.layout.specs.Fields.{limit};
-ghost use Rattle.layout.specs.Reading.Sheets.{sumOf, passportChecks};
+ghost use Rattle.layout.specs.Reading.Sheets.{sumOf, passportChecks, start};
+ghost use Rattle.layout.specs.Refusals.{TEXT};
 ghost use Rattle.layout.specs.Shared.Texts.{isTextField};
 ghost use Rattle.layout.specs.Walk.{must};
 ghost use Rattle.reading_head.specs.Checks.{headChecks};
@@ -18,6 +19,14 @@ use fields::steps::Step;
 use fields::steps::demand;
 use fields::sums;
 use fields::texts;
+use layout::descriptor;
+use layout::passport;
+use layout::refusals::EDITION;
+use layout::refusals::NOT_SXF;
+use layout::refusals::RESERVED;
+use layout::refusals::SUM;
+use layout::refusals::TEXT;
+use layout::sheet;
 
 // The four bytes at p hold one value only.
 fn fixed(so_far: Step, s: &[u8], p: usize, value: u32, refusal: u32) -> Step
@@ -30,12 +39,12 @@ fn fixed(so_far: Step, s: &[u8], p: usize, value: u32, refusal: u32) -> Step
 // The n bytes at p hold a text.
 fn text(so_far: Step, s: &[u8], p: usize, n: usize) -> Step
     requires { ⌜ p + n ≤ length (now s) ⌝ }
-    ensures { λ r. ⌜ ((y : ℕ) → Next «so_far» y 0 (must (isTextField (take n (drop p (now (s .entry))))) 6 p ∷ []) r) ⌝ }
+    ensures { λ r. ⌜ ((y : ℕ) → Next «so_far» y 0 (must (isTextField (take n (drop p (now (s .entry))))) TEXT p ∷ []) r) ⌝ }
 {
     demand(
         so_far,
         texts::is_text_field(numbers::part(s, p, n)),
-        6,
+        TEXT,
         0,
         p,
     )
@@ -43,37 +52,69 @@ fn text(so_far: Step, s: &[u8], p: usize, n: usize) -> Step
 
 // The sum of passport and descriptor, without the four bytes that state the sum.
 pub fn head_sum(s: &[u8]) -> u32
-    requires { ⌜ (452 ≤ length (now s)) × (length (now s) ≤ limit) ⌝ }
-    ensures { λ r. ⌜ (r + total (drop 452 (now (s .entry))) ≡ sumOf (now (s .entry))) × (r ≤ 255 * 452) ⌝ }
+    requires { ⌜ (start ≤ length (now s)) × (length (now s) ≤ limit) ⌝ }
+    ensures { λ r. ⌜ (r + total (drop start (now (s .entry))) ≡ sumOf (now (s .entry))) × (r ≤ 255 * start) ⌝ }
 {
-    let front = sums::sum_of(numbers::part(s, 0, 12));
-    let back = sums::sum_of(numbers::part(s, 16, 436));
+    let front = sums::sum_of(numbers::part(s, 0, passport::SUM));
+    let back = sums::sum_of(numbers::part(s, passport::AFTER_SUM, sheet::START_AFTER_SUM));
     front + back
 }
 
 fn check_passport(s: &[u8], sum: u32) -> Step
-    requires { ⌜ (452 ≤ length (now s)) × (sum ≡ sumOf (now s)) ⌝ }
+    requires { ⌜ (start ≤ length (now s)) × (sum ≡ sumOf (now s)) ⌝ }
     ensures { λ r. ⌜ ((y : ℕ) → Next Fine y 0 (passportChecks (now (s .entry))) r) ⌝ }
 {
-    let a = fixed(Step::Fine, s, 0, 0x00465853, 3);
-    let a = fixed(a, s, 4, 400, 4);
-    let a = fixed(a, s, 8, 0x00040000, 4);
-    let a = fixed(a, s, 12, sum, 5);
-    let a = text(a, s, 16, 12);
-    let a = text(a, s, 28, 32);
-    text(a, s, 64, 32)
+    let a = fixed(
+        Step::Fine,
+        s,
+        passport::IDENTIFIER,
+        passport::IDENTIFIER_IS,
+        NOT_SXF,
+    );
+    let a = fixed(a, s, passport::OWN_LENGTH, passport::OWN_LENGTH_IS, EDITION);
+    let a = fixed(a, s, passport::EDITION, passport::EDITION_IS, EDITION);
+    let a = fixed(a, s, passport::SUM, sum, SUM);
+    let a = text(a, s, passport::DATE, passport::DATE_WIDTH);
+    let a = text(a, s, passport::DESIGNATION, passport::DESIGNATION_WIDTH);
+    text(a, s, passport::TITLE, passport::TITLE_WIDTH)
 }
 
 // All checks on passport and descriptor of a sheet with that sum.
 pub fn check(s: &[u8], sum: u32, year: u32) -> Step
-    requires { ⌜ (452 ≤ length (now s)) × (sum ≡ sumOf (now s)) ⌝ }
+    requires { ⌜ (start ≤ length (now s)) × (sum ≡ sumOf (now s)) ⌝ }
     ensures { λ r. ⌜ Next Fine year 0 (headChecks (now (s .entry))) r ⌝ }
 {
     let a = check_passport(s, sum);
-    let a = flags::rest_of_passport(a, numbers::part(s, 96, 304), year);
-    let a = fixed(a, s, 400, 0x00544144, 3);
-    let a = fixed(a, s, 404, 52, 4);
-    let a = text(a, s, 408, 32);
-    let a = flags::carried(a, numbers::part(s, 444, 4), year);
-    demand(a, texts::all_zero(numbers::part(s, 448, 4)), 7, 0, 448)
+    let a = flags::rest_checks(
+        a,
+        numbers::part(s, passport::REST, passport::REST_WIDTH),
+        year,
+    );
+    let a = fixed(
+        a,
+        s,
+        descriptor::IDENTIFIER,
+        descriptor::IDENTIFIER_IS,
+        NOT_SXF,
+    );
+    let a = fixed(
+        a,
+        s,
+        descriptor::OWN_LENGTH,
+        descriptor::OWN_LENGTH_IS,
+        EDITION,
+    );
+    let a = text(a, s, descriptor::DESIGNATION, descriptor::DESIGNATION_WIDTH);
+    let a = flags::carried_checks(
+        a,
+        numbers::part(s, descriptor::CARRIED, descriptor::CARRIED_WIDTH),
+        year,
+    );
+    demand(
+        a,
+        texts::all_zero(numbers::part(s, descriptor::RESERVED, descriptor::RESERVED_WIDTH)),
+        RESERVED,
+        0,
+        descriptor::RESERVED,
+    )
 }

@@ -1,4 +1,6 @@
 // Parts of a slice. What would lie past its end is left out, or counts as zero.
+use layout::descriptor;
+use layout::passport;
 
 pub fn start(s: &[u8], length: usize) -> &[u8] {
     if length < s.len() { &s[0..length] } else { s }
@@ -18,11 +20,11 @@ pub fn byte_at(s: &[u8], place: usize) -> u8 {
 }
 
 // The 304 bytes from 96 on, as the writer takes them.
-pub fn rest_of(s: &[u8]) -> [u8; 304] {
-    let after = part(s, 96, 304);
-    let mut rest = [0u8; 304];
+pub fn rest_of(s: &[u8]) -> [u8; passport::REST_WIDTH] {
+    let after = part(s, passport::REST, passport::REST_WIDTH);
+    let mut rest = [0u8; passport::REST_WIDTH];
     let mut i = 0;
-    while i < 304 {
+    while i < passport::REST_WIDTH {
         rest[i] = byte_at(after, i);
         i += 1;
     }
@@ -30,10 +32,10 @@ pub fn rest_of(s: &[u8]) -> [u8; 304] {
 }
 
 // The four bytes at 444.
-pub fn carried_of(s: &[u8]) -> [u8; 4] {
-    let flags = byte_at(s, 444);
-    let coding = byte_at(s, 445);
-    let secrecy = byte_at(s, 446);
-    let edited = byte_at(s, 447);
-    [flags, coding, secrecy, edited]
+pub fn carried_of(s: &[u8]) -> [u8; descriptor::CARRIED_WIDTH] {
+    let flags = byte_at(s, descriptor::FLAGS);
+    let labels = byte_at(s, descriptor::LABELS);
+    let secrecy = byte_at(s, descriptor::SECRECY);
+    let keeping = byte_at(s, descriptor::KEEPING);
+    [flags, labels, secrecy, keeping]
 }

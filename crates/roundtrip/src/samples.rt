@@ -12,6 +12,8 @@ use layout::Checked;
 use layout::HeadAt;
 use layout::Headed;
 use layout::Written;
+use layout::descriptor;
+use layout::passport;
 use meanings::setting::Setting;
 use reading::heads::head_of;
 use reading::sheets::unfold;
@@ -31,10 +33,10 @@ fn written_as(
     bytes: &[u8],
     at: Setting,
 ) -> bool {
-    let date = part(s, 16, h.date);
-    let designation = part(s, 28, h.designation);
-    let title = part(s, 64, h.title);
-    let designation2 = part(s, 408, h.designation2);
+    let date = part(s, passport::DATE, h.date);
+    let designation = part(s, passport::DESIGNATION, h.designation);
+    let title = part(s, passport::TITLE, h.title);
+    let designation2 = part(s, descriptor::DESIGNATION, h.designation2);
     let rest = rest_of(s);
     let carried = carried_of(s);
     let mut out = [FILL_BYTE; BYTES];

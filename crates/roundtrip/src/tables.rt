@@ -8,13 +8,14 @@ use crate::tell::done;
 use crate::tell::failed;
 use layout::Checked;
 use layout::Written;
+use layout::passport;
 use meanings::setting::Setting;
 use reading::sheets::unfold;
 use writing::sheets::write;
 
 // The bytes from 96 on of a sheet that has nothing but what it must.
-pub fn plain_rest() -> [u8; 304] {
-    let mut rest = [0u8; 304];
+pub fn plain_rest() -> [u8; passport::REST_WIDTH] {
+    let mut rest = [0u8; passport::REST_WIDTH];
     rest[0] = 3;
     rest
 }

@@ -15,8 +15,6 @@ use layout::structs::SxfCorners;
 use layout::structs::SxfHead;
 use layout::structs::SxfUnit;
 use reading::heads;
-use reading::setting::Made;
-use reading::setting::Setting;
 
 fn head_row(h: Headed) -> SxfHead
     ensures { λ r. ⌜ r ≡ headRow h ⌝ }
@@ -49,10 +47,7 @@ fn head_row(h: Headed) -> SxfHead
 pub extern "C" fn sxf_head_of(sheet: &[u8], year: u32) -> SxfHead
     ensures { λ r. ⌜ r ≡ headRow (headedOf (reading year (now (sheet .entry)))) ⌝ }
 {
-    match Setting::new(year) {
-        Made::At(at) => head_row(heads::head_of(sheet, at)),
-        Made::Refused(r) => head_row(Headed::Refused(r)),
-    }
+    head_row(heads::head_by_year(sheet, year))
 }
 
 fn unit_as(unit: u64, byte: u8) -> SxfUnit
@@ -98,10 +93,7 @@ fn unit_row(u: UnitAnswer) -> SxfUnit
 pub extern "C" fn sxf_unit_of(sheet: &[u8], year: u32) -> SxfUnit
     ensures { λ r. ⌜ r ≡ unitRow (unitIn (reading year (now (sheet .entry)))) ⌝ }
 {
-    match Setting::new(year) {
-        Made::At(at) => unit_row(heads::unit_of(sheet, at)),
-        Made::Refused(r) => unit_row(UnitAnswer::Refused(r)),
-    }
+    unit_row(heads::unit_by_year(sheet, year))
 }
 
 // The bits of eight doubles, which are undefined at a NaN.
@@ -174,8 +166,5 @@ fn corners_row(c: Corners) -> SxfCorners
 pub extern "C" fn sxf_corners_of(sheet: &[u8], year: u32) -> SxfCorners
     ensures { λ r. ⌜ r ≡ cornersRow (cornersIn (reading year (now (sheet .entry)))) ⌝ }
 {
-    match Setting::new(year) {
-        Made::At(at) => corners_row(heads::corners_of(sheet, at)),
-        Made::Refused(r) => no_corners(r),
-    }
+    corners_row(heads::corners_by_year(sheet, year))
 }

@@ -6,8 +6,6 @@ ghost use Rattle.layout.specs.Answers.Structs.{recordRow};
 use layout::Found;
 use layout::structs::SxfRecord;
 use reading::records;
-use reading::setting::Made;
-use reading::setting::Setting;
 
 fn record_row(f: Found) -> SxfRecord
     ensures { λ r. ⌜ r ≡ recordRow f ⌝ }
@@ -52,8 +50,5 @@ fn record_row(f: Found) -> SxfRecord
 pub extern "C" fn sxf_record_at(sheet: &[u8], year: u32, record: u64) -> SxfRecord
     ensures { λ r. ⌜ r ≡ recordRow (foundOf (asked year (now (sheet .entry)) «record»)) ⌝ }
 {
-    match Setting::new(year) {
-        Made::At(at) => record_row(records::record_at(sheet, at, record)),
-        Made::Refused(r) => record_row(Found::Refused(r)),
-    }
+    record_row(records::record_by_year(sheet, year, record))
 }

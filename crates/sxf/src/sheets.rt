@@ -6,8 +6,6 @@ ghost use Rattle.layout.specs.Answers.Lent.{rooms, theNumbers, theElements, the
 ghost use Rattle.layout.specs.Answers.Structs.{checkedRow};
 use layout::Checked;
 use layout::structs::SxfChecked;
-use reading::setting::Made;
-use reading::setting::Setting;
 use reading::sheets;
 
 fn checked_row(c: Checked) -> SxfChecked
@@ -41,10 +39,7 @@ fn checked_row(c: Checked) -> SxfChecked
 pub extern "C" fn sxf_check(sheet: &[u8], year: u32) -> SxfChecked
     ensures { λ r. ⌜ r ≡ checkedRow (checkedOf (reading year (now (sheet .entry)))) ⌝ }
 {
-    match Setting::new(year) {
-        Made::At(at) => checked_row(sheets::check(sheet, at)),
-        Made::Refused(r) => checked_row(Checked::Refused(r)),
-    }
+    checked_row(sheets::check_by_year(sheet, year))
 }
 
 #[no_mangle]
@@ -56,12 +51,12 @@ pub extern "C" fn sxf_unfold(
     bytes: &mut [u8],
 ) -> SxfChecked
     ensures answers { λ r. ⌜ r ≡ checkedRow (checkedOf (roomy year (now (sheet .entry)) (rooms (now (table .entry)) (now (elements .entry)) (now (bytes .entry))))) ⌝ }
-    ensures numbers { λ _. ⌜ now (table .exit) ≡ lent theNumbers (unfolded year (now (sheet .entry)) (rooms (now (table .entry)) (now (elements .entry)) (now (bytes .entry)))) (now (table .entry)) ⌝ }
-    ensures pool { λ _. ⌜ now (elements .exit) ≡ lent theElements (unfolded year (now (sheet .entry)) (rooms (now (table .entry)) (now (elements .entry)) (now (bytes .entry)))) (now (elements .entry)) ⌝ }
-    ensures texts { λ _. ⌜ now (bytes .exit) ≡ lent theBytes (unfolded year (now (sheet .entry)) (rooms (now (table .entry)) (now (elements .entry)) (now (bytes .entry)))) (now (bytes .entry)) ⌝ }
+    ensures numbers { λ _. ⌜ now (table .exit) ≡ lent theNumbers (unfolded year (now (sheet .entry))
+        (rooms (now (table .entry)) (now (elements .entry)) (now (bytes .entry)))) (now (table .entry)) ⌝ }
+    ensures pool { λ _. ⌜ now (elements .exit) ≡ lent theElements (unfolded year (now (sheet .entry))
+        (rooms (now (table .entry)) (now (elements .entry)) (now (bytes .entry)))) (now (elements .entry)) ⌝ }
+    ensures texts { λ _. ⌜ now (bytes .exit) ≡ lent theBytes (unfolded year (now (sheet .entry))
+        (rooms (now (table .entry)) (now (elements .entry)) (now (bytes .entry)))) (now (bytes .entry)) ⌝ }
 {
-    match Setting::new(year) {
-        Made::At(at) => checked_row(sheets::unfold(sheet, at, table, elements, bytes)),
-        Made::Refused(r) => checked_row(Checked::Refused(r)),
-    }
+    checked_row(sheets::unfold_by_year(sheet, year, table, elements, bytes))
 }

@@ -7,9 +7,9 @@ ghost use Rattle.layout.specs.Answers.Enums.{writtenOf};
 ghost use Rattle.layout.specs.Writing.Tables.{table as tableOf};
 ghost use Rattle.layout.specs.Answers.Structs.{writtenRow};
 use layout::Written;
+use layout::descriptor;
+use layout::passport;
 use layout::structs::SxfWritten;
-use writing::setting::Made;
-use writing::setting::Setting;
 use writing::sheets;
 
 fn written_row(w: Written) -> SxfWritten
@@ -38,36 +38,33 @@ pub extern "C" fn sxf_write(
     designation: &[u8],
     scale: u32,
     title: &[u8],
-    rest: &[u8; 304],
+    rest: &[u8; passport::REST_WIDTH],
     designation2: &[u8],
-    flags: &[u8; 4],
+    carried: &[u8; descriptor::CARRIED_WIDTH],
     table: &[u64],
     elements: &[u64],
     bytes: &[u8],
     out: &mut [u8],
 ) -> SxfWritten
     ensures answers { λ r. ⌜ r ≡ writtenRow (writtenOf (written year
-        (headOf (now (date .entry)) (now (designation .entry)) scale (now (title .entry)) (now (rest .entry)) (now (designation2 .entry)) (now (flags .entry)))
+        (headOf (now (date .entry)) (now (designation .entry)) scale (now (title .entry)) (now (rest .entry)) (now (designation2 .entry)) (now (carried .entry)))
         (tableOf (now (table .entry)) (now (elements .entry)) (now (bytes .entry))) (length (now (out .entry))))) ⌝ }
     ensures sheet { λ _. ⌜ now (out .exit) ≡ lent theSheet (written year
-        (headOf (now (date .entry)) (now (designation .entry)) scale (now (title .entry)) (now (rest .entry)) (now (designation2 .entry)) (now (flags .entry)))
+        (headOf (now (date .entry)) (now (designation .entry)) scale (now (title .entry)) (now (rest .entry)) (now (designation2 .entry)) (now (carried .entry)))
         (tableOf (now (table .entry)) (now (elements .entry)) (now (bytes .entry))) (length (now (out .entry)))) (now (out .entry)) ⌝ }
 {
-    match Setting::new(year) {
-        Made::At(at) => written_row(sheets::write(
-            date,
-            designation,
-            scale,
-            title,
-            rest,
-            designation2,
-            flags,
-            table,
-            elements,
-            bytes,
-            at,
-            out,
-        )),
-        Made::Refused(r) => written_row(Written::Refused(r)),
-    }
+    written_row(sheets::write_by_year(
+        date,
+        designation,
+        scale,
+        title,
+        rest,
+        designation2,
+        carried,
+        table,
+        elements,
+        bytes,
+        year,
+        out,
+    ))
 }

@@ -6,6 +6,8 @@ ghost use lib.Seq.{sets};
 ghost use Rattle.layout.specs.Answers.Lent.{headOf, theSheet};
 ghost use Rattle.layout.specs.Answers.Calls.{written, lent};
 ghost use Rattle.layout.specs.Answers.Enums.{writtenOf};
+ghost use Rattle.layout.specs.Fields.Descriptor;
+ghost use Rattle.layout.specs.Fields.Passport;
 ghost use Rattle.layout.specs.Layout.Encode.{encode};
 ghost use Rattle.layout.specs.Layout.Fine.{Fine};
 ghost use Rattle.layout.specs.Sheet.{Sheet};
@@ -16,6 +18,11 @@ ghost use Rattle.writing.specs.Ready.{measuredOf, Ready, writtenAt};
 use fields::steps::Step;
 use layout::Refusal;
 use layout::Written;
+use layout::descriptor;
+use layout::passport;
+use layout::refusals::ROOM;
+use layout::refusals::TOO_LONG;
+use layout::sheet;
 use meanings::setting::Made;
 use meanings::setting::Setting;
 use writing_check::tables;
@@ -37,7 +44,7 @@ fn measure(
     bytes: &[u8],
     year: u32,
 ) -> Rows
-    requires { ⌜ (length (now rest) ≡ 304) × (length (now carried) ≡ 4) ⌝ }
+    requires { ⌜ (length (now rest) ≡ Passport.rest .width) × (length (now carried) ≡ Descriptor.carried .width) ⌝ }
     ensures { λ r. ⌜ ((scale : ℕ) → scale < 256 ^ 4 → r ≡ measuredOf (answer (upTo year) (tableWalk
         (headOf (now (date .entry)) (now (designation .entry)) scale (now (title .entry)) (now (rest .entry)) (now (designation2 .entry)) (now (carried .entry)))
         (tableOf (now (table .entry)) (now (elements .entry)) (now (bytes .entry)))))) ⌝ }
@@ -45,9 +52,9 @@ fn measure(
     match check::check(date, designation, title, rest, designation2, carried, year) {
         Step::Fine => match tables::check(table, elements, bytes, year) {
             Rows::Fine(t) => {
-                if 16776764 < t.length {
+                if sheet::RECORDS_LIMIT < t.length {
                     return Rows::Refused(Refusal {
-                        number: 1,
+                        number: TOO_LONG,
                         place: 0,
                         year: 0,
                     });
@@ -94,8 +101,8 @@ fn emit_sheet(
         count,
         out,
     );
-    writing_emit::tables::emit(table, elements, bytes, t.records, out, 452);
-    emit::emit_sum(out, 452 + t.length);
+    writing_emit::tables::emit(table, elements, bytes, t.records, out, sheet::START);
+    emit::emit_sum(out, sheet::START + t.length);
 }
 
 // At a year that is a setting.
@@ -113,7 +120,7 @@ fn write_at(
     year: u32,
     out: &mut [u8],
 ) -> Written
-    requires { ⌜ (length (now rest) ≡ 304) × (length (now carried) ≡ 4) ⌝ }
+    requires { ⌜ (length (now rest) ≡ Passport.rest .width) × (length (now carried) ≡ Descriptor.carried .width) ⌝ }
     ensures answers { λ r. ⌜ r ≡ writtenOf (writtenAt year
         (headOf (now (date .entry)) (now (designation .entry)) scale (now (title .entry)) (now (rest .entry)) (now (designation2 .entry)) (now (carried .entry)))
         (tableOf (now (table .entry)) (now (elements .entry)) (now (bytes .entry))) (length (now (out .entry)))) ⌝ }
@@ -134,10 +141,10 @@ fn write_at(
         year,
     ) {
         Rows::Fine(t) => {
-            let n = 452 + t.length;
+            let n = sheet::START + t.length;
             if out.len() < n {
                 return Written::Refused(Refusal {
-                    number: 15,
+                    number: ROOM,
                     place: 0,
                     year: 0,
                 });
@@ -163,29 +170,30 @@ fn write_at(
 }
 
 // The sheet of a head and a record table goes to the start of the slice. Nothing is written before it is known that all of it is right
-// and fits; a text is refused and never shortened. The setting is made anew, so that the answer does not rest on who made it.
-pub fn write(
+// and fits; a text is refused and never shortened. This is the writer's one door
+// for the year: one that is none of the nine is refused first.
+pub fn write_by_year(
     date: &[u8],
     designation: &[u8],
     scale: u32,
     title: &[u8],
-    rest: &[u8; 304],
+    rest: &[u8; passport::REST_WIDTH],
     designation2: &[u8],
-    carried: &[u8; 4],
+    carried: &[u8; descriptor::CARRIED_WIDTH],
     table: &[u64],
     elements: &[u64],
     bytes: &[u8],
-    setting: Setting,
+    year: u32,
     out: &mut [u8],
 ) -> Written
-    ensures answers { λ r. ⌜ r ≡ writtenOf (written (setting .year)
+    ensures answers { λ r. ⌜ r ≡ writtenOf (written year
         (headOf (now (date .entry)) (now (designation .entry)) scale (now (title .entry)) (now (rest .entry)) (now (designation2 .entry)) (now (carried .entry)))
         (tableOf (now (table .entry)) (now (elements .entry)) (now (bytes .entry))) (length (now (out .entry)))) ⌝ }
-    ensures sheet { λ _. ⌜ now (out .exit) ≡ lent theSheet (written (setting .year)
+    ensures sheet { λ _. ⌜ now (out .exit) ≡ lent theSheet (written year
         (headOf (now (date .entry)) (now (designation .entry)) scale (now (title .entry)) (now (rest .entry)) (now (designation2 .entry)) (now (carried .entry)))
         (tableOf (now (table .entry)) (now (elements .entry)) (now (bytes .entry))) (length (now (out .entry)))) (now (out .entry)) ⌝ }
 {
-    match Setting::new(setting.year()) {
+    match Setting::new(year) {
         Made::At(known) => write_at(
             date,
             designation,
@@ -202,4 +210,42 @@ pub fn write(
         ),
         Made::Refused(r) => Written::Refused(r),
     }
+}
+
+// The same for a setting.
+pub fn write(
+    date: &[u8],
+    designation: &[u8],
+    scale: u32,
+    title: &[u8],
+    rest: &[u8; passport::REST_WIDTH],
+    designation2: &[u8],
+    carried: &[u8; descriptor::CARRIED_WIDTH],
+    table: &[u64],
+    elements: &[u64],
+    bytes: &[u8],
+    setting: Setting,
+    out: &mut [u8],
+) -> Written
+    ensures answers { λ r. ⌜ r ≡ writtenOf (written (setting .year)
+        (headOf (now (date .entry)) (now (designation .entry)) scale (now (title .entry)) (now (rest .entry)) (now (designation2 .entry)) (now (carried .entry)))
+        (tableOf (now (table .entry)) (now (elements .entry)) (now (bytes .entry))) (length (now (out .entry)))) ⌝ }
+    ensures sheet { λ _. ⌜ now (out .exit) ≡ lent theSheet (written (setting .year)
+        (headOf (now (date .entry)) (now (designation .entry)) scale (now (title .entry)) (now (rest .entry)) (now (designation2 .entry)) (now (carried .entry)))
+        (tableOf (now (table .entry)) (now (elements .entry)) (now (bytes .entry))) (length (now (out .entry)))) (now (out .entry)) ⌝ }
+{
+    write_by_year(
+        date,
+        designation,
+        scale,
+        title,
+        rest,
+        designation2,
+        carried,
+        table,
+        elements,
+        bytes,
+        setting.year(),
+        out,
+    )
 }

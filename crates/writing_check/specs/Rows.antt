@@ -27,8 +27,8 @@ rowOf a =
     }
 
 -- the checks on a row of which at least eight numbers are left
-abbrev pub rowChecks : RecordRow → ℕ → List Check
-rowChecks a left =
+abbrev pub allRules : RecordRow → ℕ → List Check
+allRules a left =
     (must (leb (Index.rowSize (a .parts) (a .items)) left) TABLE 0 ∷ [])
     ++ (nameRules a ++ (referenceChecks Index.reference Index.reference Index.reference (a .referenceBytes) ++ countRules a))
 

@@ -7,6 +7,7 @@ ghost use Rattle.fields.specs.Shapes.{dimensions, widthsOf};
 ghost use Rattle.layout.specs.Bytes.{repeat};
 ghost use Rattle.layout.specs.Writing.Parts.{fitAll};
 use fields::shapes::Shape;
+use layout::bounds;
 
 // n elements from at on, each below a bound.
 fn fit_all(elements: &[u64], at: usize, n: usize, bound: u64) -> bool
@@ -33,13 +34,13 @@ fn fit_points(elements: &[u64], at: usize, points: usize) -> bool
     let mut left = points;
     let mut i = at;
     while 0 < left {
-        if 65536 <= elements[i] {
+        if bounds::TWO_BYTES <= elements[i] {
             return false;
         }
-        if 65536 <= elements[i + 1] {
+        if bounds::TWO_BYTES <= elements[i + 1] {
             return false;
         }
-        if 4294967296 <= elements[i + 2] {
+        if bounds::FOUR_BYTES <= elements[i + 2] {
             return false;
         }
         i += 3;
@@ -57,10 +58,10 @@ pub fn fit(elements: &[u64], at: usize, points: usize, n: usize, s: Shape) -> bo
         return true;
     }
     if s.size | s.float {
-        return fit_all(elements, at, n, 4294967296);
+        return fit_all(elements, at, n, bounds::FOUR_BYTES);
     }
     if s.three {
         return fit_points(elements, at, points);
     }
-    fit_all(elements, at, n, 65536)
+    fit_all(elements, at, n, bounds::TWO_BYTES)
 }

@@ -6,7 +6,9 @@ ghost use Prim.Native.Nat.{ℕ, _+_, _*_, _≤_, _<_, _^_};
 ghost use lib.ListN.{length, drop};
 ghost use Rattle.fields.specs.Steps.{Next};
 ghost use Rattle.fields.specs.declared.steps.Step.the-variants.{Fine};
+ghost use Rattle.layout.specs.Fields.{limit};
 ghost use Rattle.layout.specs.Layout.Sizes.{sumBy, itemBytes};
+ghost use Rattle.layout.specs.Shared.Row.{itemWidth};
 ghost use Rattle.layout.specs.Shared.Types.{kindOf};
 ghost use Rattle.layout.specs.Walk.{answer, upTo};
 ghost use Rattle.layout.specs.Writing.Items.{itemRowIn, itemRules, takeItem};
@@ -21,6 +23,13 @@ use fields::steps::Step;
 use fields::steps::demand;
 use fields::steps::feature;
 use fields::texts;
+use layout::bounds;
+use layout::item;
+use layout::refusals::SEMANTIC;
+use layout::refusals::TABLE;
+use layout::refusals::TEXT;
+use layout::row;
+use layout::years;
 
 // An item's four numbers; t is its type.
 pub struct ItemNumbers {
@@ -45,14 +54,14 @@ pub struct Value {
 }
 
 fn read_item(table: &[u64], at: usize) -> ItemNumbers
-    requires { ⌜ at + 4 ≤ length (now table) ⌝ }
+    requires { ⌜ at + itemWidth ≤ length (now table) ⌝ }
     ensures { λ r. ⌜ rowOf r ≡ itemRowIn (drop at (now (table .entry))) ⌝ }
 {
     ItemNumbers {
         code: table[at],
-        t: table[at + 1],
-        scale: table[at + 2],
-        size: table[at + 3],
+        t: table[at + row::ITEM_TYPE],
+        scale: table[at + row::ITEM_SCALE],
+        size: table[at + row::ITEM_LENGTH],
     }
 }
 
@@ -97,17 +106,23 @@ fn shape_of(t: u64, scale: u64) -> Shape
 }
 
 // The checks on code, type and scale.
-fn head_checks(a: ItemNumbers, place: usize, year: u32) -> Step
-    requires { ⌜ place + 4 ≤ 18446744073709551616 ⌝ }
+fn head_rules(a: ItemNumbers, place: usize, year: u32) -> Step
+    requires { ⌜ place + itemWidth ≤ 2 ^ 64 ⌝ }
     ensures { λ r. ⌜ Next Fine year place (headRules a (shapeOf (kindOf (a .t)) (a .scale))) r ⌝ }
 {
     let k = shape_of(a.t, a.scale);
-    let s = demand(Step::Fine, a.code < 65536, 14, place, 0);
-    let s = demand(s, a.t < 256, 14, place, 1);
-    let s = demand(s, k.known, 12, place, 1);
-    let s = feature(s, k.long, 2012, place, 1, year);
-    let s = demand(s, a.scale < 256, 14, place, 2);
-    demand(s, k.good_scale, 12, place, 2)
+    let s = demand(
+        Step::Fine,
+        a.code < bounds::TWO_BYTES,
+        TABLE,
+        place,
+        row::ITEM_CODE,
+    );
+    let s = demand(s, a.t < bounds::ONE_BYTE, TABLE, place, row::ITEM_TYPE);
+    let s = demand(s, k.known, SEMANTIC, place, row::ITEM_TYPE);
+    let s = feature(s, k.long, years::TYPE_128, place, row::ITEM_TYPE, year);
+    let s = demand(s, a.scale < bounds::ONE_BYTE, TABLE, place, row::ITEM_SCALE);
+    demand(s, k.good_scale, SEMANTIC, place, row::ITEM_SCALE)
 }
 
 // A value of a type other than 128.
@@ -148,43 +163,49 @@ fn value_of(t: u64, scale: u64, size: u64) -> Value
 }
 
 // The checks on the value length, with so many bytes left in the pool.
-fn size_checks(a: ItemNumbers, k: Value, left: usize, place: usize) -> Step
-    requires { ⌜ (place + 4 ≤ 18446744073709551616) × (k ≡ valueOf (kindOf (a .t)) (a .scale) (a .size)) ⌝ }
+fn size_rules(a: ItemNumbers, k: Value, left: usize, place: usize) -> Step
+    requires { ⌜ (place + itemWidth ≤ 2 ^ 64) × (k ≡ valueOf (kindOf (a .t)) (a .scale) (a .size)) ⌝ }
     ensures { λ r. ⌜ ((y : ℕ) → Next Fine y place (sizeRules a left) r) ⌝ }
 {
     let size = a.size;
-    let s = demand(Step::Fine, size < 4294967296, 14, place, 3);
-    let s = demand(s, size == k.size, 14, place, 3);
+    let s = demand(
+        Step::Fine,
+        size < bounds::FOUR_BYTES,
+        TABLE,
+        place,
+        row::ITEM_LENGTH,
+    );
+    let s = demand(s, size == k.size, TABLE, place, row::ITEM_LENGTH);
     let good = !k.long | ((size % 2 == 0) & (2 <= size));
-    let s = demand(s, good, 12, place, 3);
-    demand(s, size <= left as u64, 14, place, 3)
+    let s = demand(s, good, SEMANTIC, place, row::ITEM_LENGTH);
+    demand(s, size <= left as u64, TABLE, place, row::ITEM_LENGTH)
 }
 
 // The checks on the value: its length, and its closing zeros in the pool from at on.
-fn value_checks(bytes: &[u8], at: usize, a: ItemNumbers, k: Value, place: usize) -> Step
-    requires { ⌜ (at ≤ length (now bytes)) × (place + 4 ≤ 18446744073709551616) × (k ≡ valueOf (kindOf (a .t)) (a .scale) (a .size)) × (k .closing ≤ 2) ⌝ }
+fn value_rules(bytes: &[u8], at: usize, a: ItemNumbers, k: Value, place: usize) -> Step
+    requires { ⌜ (at ≤ length (now bytes)) × (place + itemWidth ≤ 2 ^ 64) × (k ≡ valueOf (kindOf (a .t)) (a .scale) (a .size)) × (k .closing ≤ 2) ⌝ }
     ensures { λ r. ⌜ ((y : ℕ) → Next Fine y place (valueRules a (drop at (now (bytes .entry)))) r) ⌝ }
 {
-    match size_checks(a, k, bytes.len() - at, place) {
+    match size_rules(a, k, bytes.len() - at, place) {
         Step::Fine => {
             let closing = k.closing;
             let end = at + a.size as usize - closing;
             let closed = texts::all_zero(numbers::part(bytes, end, closing));
-            demand(Step::Fine, closed, 6, place, 3)
+            demand(Step::Fine, closed, TEXT, place, row::ITEM_LENGTH)
         }
         Step::Refused(r) => Step::Refused(r),
     }
 }
 
 // All checks on an item whose value starts at a place of the pool.
-fn item_checks(bytes: &[u8], at: usize, a: ItemNumbers, place: usize, year: u32) -> Step
-    requires { ⌜ (at ≤ length (now bytes)) × (place + 4 ≤ 18446744073709551616) ⌝ }
+fn item_rules(bytes: &[u8], at: usize, a: ItemNumbers, place: usize, year: u32) -> Step
+    requires { ⌜ (at ≤ length (now bytes)) × (place + itemWidth ≤ 2 ^ 64) ⌝ }
     ensures { λ r. ⌜ Next Fine year place (itemRules (rowOf a) (drop at (now (bytes .entry)))) r ⌝ }
 {
-    match head_checks(a, place, year) {
+    match head_rules(a, place, year) {
         Step::Fine => {
             let k = value_of(a.t, a.scale, a.size);
-            value_checks(bytes, at, a, k, place)
+            value_rules(bytes, at, a, k, place)
         }
         Step::Refused(r) => Step::Refused(r),
     }
@@ -197,21 +218,21 @@ fn item_length(a: ItemNumbers) -> usize
 {
     let size = a.size as usize;
     if a.t == 128 {
-        return 4 + (4 + size);
+        return item::SIZE + (item::LONG_LENGTH_WIDTH + size);
     }
-    4 + size
+    item::SIZE + size
 }
 
 // One item.
 pub fn take_item(table: &[u64], bytes: &[u8], p: Places, year: u32) -> Moved
-    requires { ⌜ (p .number + 4 ≤ length (now table)) × (p .byte ≤ length (now bytes)) × (p .length ≤ 16777217) ⌝ }
+    requires { ⌜ (p .number + itemWidth ≤ length (now table)) × (p .byte ≤ length (now bytes)) × (p .length ≤ limit + 1) ⌝ }
     ensures { λ r. ⌜ ((es : List ℕ) → r ≡ movedOf flattenItem itemBytes p (answer (upTo year) (takeItem (p .number) (here (tableOf (now (table .entry)) es (now (bytes .entry))) p)))) ⌝ }
 {
     let number = p.number;
     let a = read_item(table, number);
-    match item_checks(bytes, p.byte, a, number, year) {
+    match item_rules(bytes, p.byte, a, number, year) {
         Step::Fine => Moved::Fine(Places {
-            number: number + 4,
+            number: number + row::ITEM_WIDTH,
             element: p.element,
             byte: p.byte + a.size as usize,
             length: longer(p.length, item_length(a)),
@@ -222,8 +243,8 @@ pub fn take_item(table: &[u64], bytes: &[u8], p: Places, year: u32) -> Moved
 
 // So many items, one after another.
 pub fn take_items(table: &[u64], bytes: &[u8], p: Places, n: u64, year: u32) -> Moved
-    requires { ⌜ At (now table) (now bytes) p × (p .number + 4 * n ≤ length (now table)) ⌝ }
-    ensures { λ r. ⌜ ((es : List ℕ) → r ≡ movedOf (joined flattenItem) (sumBy itemBytes) p (answer (upTo year) (many n 4 takeItem (p .number) (here (tableOf (now (table .entry)) es (now (bytes .entry))) p)))) ⌝ }
+    requires { ⌜ At (now table) (now bytes) p × (p .number + itemWidth * n ≤ length (now table)) ⌝ }
+    ensures { λ r. ⌜ ((es : List ℕ) → r ≡ movedOf (joined flattenItem) (sumBy itemBytes) p (answer (upTo year) (many n itemWidth takeItem (p .number) (here (tableOf (now (table .entry)) es (now (bytes .entry))) p)))) ⌝ }
 {
     let mut left = n;
     let mut at = p;

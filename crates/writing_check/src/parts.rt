@@ -5,8 +5,10 @@ ghost use Prim.Native.Nat.{ℕ, _+_, _*_, _≤_, _<_, _^_};
 ghost use lib.ListN.{length, drop};
 ghost use Rattle.fields.specs.Steps.{Next};
 ghost use Rattle.fields.specs.declared.steps.Step.the-variants.{Fine};
+ghost use Rattle.layout.specs.Fields.Subobject;
+ghost use Rattle.layout.specs.Fields.{limit};
 ghost use Rattle.layout.specs.Layout.Sizes.{sumBy, partBytes, subobjectBytes};
-ghost use Rattle.layout.specs.Shared.Row.{referenceOf};
+ghost use Rattle.layout.specs.Shared.Row.{referenceOf, partWidth};
 ghost use Rattle.layout.specs.Walk.{answer, upTo};
 ghost use Rattle.layout.specs.Writing.Parts.{firstRules, laterRules, takePart};
 ghost use Rattle.layout.specs.Writing.Tables.{table as tableOf, joined, many, flattenPart};
@@ -21,64 +23,94 @@ use fields::shapes::Shape;
 use fields::steps::Step;
 use fields::steps::demand;
 use fields::steps::feature;
+use layout::bounds;
+use layout::refusals::COUNT;
+use layout::refusals::TABLE;
+use layout::row;
+use layout::sheet;
+use layout::subobject;
+use layout::years;
 
 // The first part's points, where the word is so.
-fn first_checks(word: u64, points: u64, place: usize, year: u32) -> Step
+fn first_rules(word: u64, points: u64, place: usize, year: u32) -> Step
     ensures { λ r. ⌜ Next Fine year place (firstRules word points) r ⌝ }
 {
-    let marked = 65535 <= points;
-    let a = demand(Step::Fine, points < 4294967296, 14, place, 0);
-    let a = feature(a, marked, 2004, place, 0, year);
-    demand(a, !marked | (word == points), 11, place, 0)
+    let marked = sheet::MARK_U64 <= points;
+    let a = demand(
+        Step::Fine,
+        points < bounds::FOUR_BYTES,
+        TABLE,
+        place,
+        row::POINTS,
+    );
+    let a = feature(a, marked, years::MARK_65535, place, row::POINTS, year);
+    demand(a, !marked | (word == points), COUNT, place, row::POINTS)
 }
 
 // A later part's points; marked is whether the first count takes the mark.
-fn later_checks(marked: bool, points: u64, place: usize) -> Step
+fn later_rules(marked: bool, points: u64, place: usize) -> Step
     ensures { λ r. ⌜ ((y : ℕ) → Next Fine y place (laterRules marked points) r) ⌝ }
 {
-    let a = demand(Step::Fine, points < 4294967296, 14, place, 0);
-    demand(a, marked | (points / 65536 == 0), 11, place, 0)
+    let a = demand(
+        Step::Fine,
+        points < bounds::FOUR_BYTES,
+        TABLE,
+        place,
+        row::POINTS,
+    );
+    demand(
+        a,
+        marked | (points / subobject::UPPER_U64 == 0),
+        COUNT,
+        place,
+        row::POINTS,
+    )
 }
 
 // The pool of elements from at on has them all, and none is too wide.
-fn element_checks(elements: &[u64], at: usize, s: Shape, points: usize, place: usize) -> Step
+fn element_rules(elements: &[u64], at: usize, s: Shape, points: usize, place: usize) -> Step
     requires { ⌜ (at ≤ length (now elements)) × (points < 2 ^ 32) ⌝ }
     ensures { λ r. ⌜ ((y : ℕ) → Next Fine y place (elementsBy s points (drop at (now (elements .entry)))) r) ⌝ }
 {
     let n = shapes::elements_of(points, s.three);
-    match demand(Step::Fine, n <= elements.len() - at, 14, place, 0) {
+    match demand(
+        Step::Fine,
+        n <= elements.len() - at,
+        TABLE,
+        place,
+        row::POINTS,
+    ) {
         Step::Fine => {
             let fits = elements::fit(elements, at, points, n, s);
-            demand(Step::Fine, fits, 14, place, 0)
+            demand(Step::Fine, fits, TABLE, place, row::POINTS)
         }
         Step::Refused(r) => Step::Refused(r),
     }
 }
 
 // The text length, with so many bytes left in the pool.
-fn text_checks(s: Shape, size: u64, left: usize, place: usize) -> Step
-    requires { ⌜ place + 2 ≤ 18446744073709551616 ⌝ }
+fn text_rules(s: Shape, size: u64, left: usize, place: usize) -> Step
+    requires { ⌜ place + partWidth ≤ 2 ^ 64 ⌝ }
     ensures { λ r. ⌜ ((y : ℕ) → Next Fine y place (textBy s size left) r) ⌝ }
 {
-    let a = demand(Step::Fine, size < 256, 14, place, 1);
-    let a = demand(a, s.text | (size == 0), 14, place, 1);
-    demand(a, size <= left as u64, 14, place, 1)
+    let a = demand(
+        Step::Fine,
+        size < bounds::ONE_BYTE,
+        TABLE,
+        place,
+        row::TEXT_LENGTH,
+    );
+    let a = demand(a, s.text | (size == 0), TABLE, place, row::TEXT_LENGTH);
+    demand(a, size <= left as u64, TABLE, place, row::TEXT_LENGTH)
 }
 
 // Both pools at p.
-fn pool_checks(
-    elements: &[u64],
-    bytes: &[u8],
-    p: Places,
-    s: Shape,
-    points: usize,
-    size: u64,
-) -> Step
-    requires { ⌜ (p .element ≤ length (now elements)) × (p .byte ≤ length (now bytes)) × (p .number + 2 ≤ 18446744073709551616) × (points < 2 ^ 32) ⌝ }
+fn pool_rules(elements: &[u64], bytes: &[u8], p: Places, s: Shape, points: usize, size: u64) -> Step
+    requires { ⌜ (p .element ≤ length (now elements)) × (p .byte ≤ length (now bytes)) × (p .number + partWidth ≤ 2 ^ 64) × (points < 2 ^ 32) ⌝ }
     ensures { λ r. ⌜ ((y : ℕ) → Next Fine y (p .number) (poolsBy s points size (drop (p .element) (now (elements .entry))) (drop (p .byte) (now (bytes .entry)))) r) ⌝ }
 {
-    match element_checks(elements, p.element, s, points, p.number) {
-        Step::Fine => text_checks(s, size, bytes.len() - p.byte, p.number),
+    match element_rules(elements, p.element, s, points, p.number) {
+        Step::Fine => text_rules(s, size, bytes.len() - p.byte, p.number),
         Step::Refused(r) => Step::Refused(r),
     }
 }
@@ -105,17 +137,17 @@ fn take_pools(
     size: u64,
     head: usize,
 ) -> Moved
-    requires { ⌜ (p .element ≤ length (now elements)) × (p .byte ≤ length (now bytes)) × (p .number + 2 < 18446744073709551616) × (p .length ≤ 16777217) × (points < 2 ^ 32) × (head ≤ 4) ⌝ }
+    requires { ⌜ (p .element ≤ length (now elements)) × (p .byte ≤ length (now bytes)) × (p .number + partWidth < 2 ^ 64) × (p .length ≤ limit + 1) × (points < 2 ^ 32) × (head ≤ Subobject.size) ⌝ }
     ensures { λ r. ⌜ ((y : ℕ) (ns : List ℕ) → r ≡ movedOf flattenPart (headed head (referenceOf reference)) p (answer (upTo y) (poolWalk (referenceOf reference) points size (p .number) (here (tableOf ns (now (elements .entry)) (now (bytes .entry))) p)))) ⌝ }
 {
     let s = shapes::shape_in(reference);
     let count = points as usize;
-    match pool_checks(elements, bytes, p, s, count, size) {
+    match pool_rules(elements, bytes, p, s, count, size) {
         Step::Fine => {
             let n = shapes::elements_of(count, s.three);
             let size = size as usize;
             Moved::Fine(Places {
-                number: p.number + 2,
+                number: p.number + row::PART_WIDTH,
                 element: p.element + n,
                 byte: p.byte + size,
                 length: longer(p.length, head + part_length(s, count, size)),
@@ -135,13 +167,13 @@ pub fn take_first(
     word: u64,
     year: u32,
 ) -> Moved
-    requires { ⌜ At (now table) (now bytes) p × (p .element ≤ length (now elements)) × (p .number + 2 ≤ length (now table)) ⌝ }
+    requires { ⌜ At (now table) (now bytes) p × (p .element ≤ length (now elements)) × (p .number + partWidth ≤ length (now table)) ⌝ }
     ensures { λ r. ⌜ r ≡ movedOf flattenPart (partBytes (referenceOf reference)) p (answer (upTo year) (takePart (referenceOf reference) (firstRules word) (p .number) (here (tableOf (now (table .entry)) (now (elements .entry)) (now (bytes .entry))) p))) ⌝ }
 {
     let number = p.number;
     let points = table[number];
-    let size = table[number + 1];
-    match first_checks(word, points, number, year) {
+    let size = table[number + row::TEXT_LENGTH];
+    match first_rules(word, points, number, year) {
         Step::Fine => take_pools(elements, bytes, p, reference, points, size, 0),
         Step::Refused(r) => Moved::Refused(r),
     }
@@ -156,14 +188,14 @@ fn take_later(
     reference: u64,
     marked: bool,
 ) -> Moved
-    requires { ⌜ At (now table) (now bytes) p × (p .element ≤ length (now elements)) × (p .number + 2 ≤ length (now table)) ⌝ }
+    requires { ⌜ At (now table) (now bytes) p × (p .element ≤ length (now elements)) × (p .number + partWidth ≤ length (now table)) ⌝ }
     ensures { λ r. ⌜ ((y : ℕ) → r ≡ movedOf flattenPart (subobjectBytes (referenceOf reference)) p (answer (upTo y) (takePart (referenceOf reference) (laterRules marked) (p .number) (here (tableOf (now (table .entry)) (now (elements .entry)) (now (bytes .entry))) p)))) ⌝ }
 {
     let number = p.number;
     let points = table[number];
-    let size = table[number + 1];
-    match later_checks(marked, points, number) {
-        Step::Fine => take_pools(elements, bytes, p, reference, points, size, 4),
+    let size = table[number + row::TEXT_LENGTH];
+    match later_rules(marked, points, number) {
+        Step::Fine => take_pools(elements, bytes, p, reference, points, size, subobject::SIZE),
         Step::Refused(r) => Moved::Refused(r),
     }
 }
@@ -178,8 +210,8 @@ pub fn take_laters(
     reference: u64,
     marked: bool,
 ) -> Moved
-    requires { ⌜ At (now table) (now bytes) p × (p .element ≤ length (now elements)) × (p .number + 2 * n ≤ length (now table)) ⌝ }
-    ensures { λ r. ⌜ ((y : ℕ) → r ≡ movedOf (joined flattenPart) (sumBy (subobjectBytes (referenceOf reference))) p (answer (upTo y) (many n 2 (takePart (referenceOf reference) (laterRules marked)) (p .number) (here (tableOf (now (table .entry)) (now (elements .entry)) (now (bytes .entry))) p)))) ⌝ }
+    requires { ⌜ At (now table) (now bytes) p × (p .element ≤ length (now elements)) × (p .number + partWidth * n ≤ length (now table)) ⌝ }
+    ensures { λ r. ⌜ ((y : ℕ) → r ≡ movedOf (joined flattenPart) (sumBy (subobjectBytes (referenceOf reference))) p (answer (upTo y) (many n partWidth (takePart (referenceOf reference) (laterRules marked)) (p .number) (here (tableOf (now (table .entry)) (now (elements .entry)) (now (bytes .entry))) p)))) ⌝ }
 {
     let mut left = n;
     let mut at = p;

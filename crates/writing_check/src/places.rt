@@ -1,8 +1,10 @@
 // Where pass 1 stands in the three slices, and the answer of each piece.
 ghost use mathlib.Core.Path.{_≡_};
 ghost use Prim.Native.Nat.{_+_, _≤_, _<_, _^_};
+ghost use Rattle.layout.specs.Fields.{limit};
 ghost use Rattle.writing_check.specs.Places.{capped};
 use layout::Refusal;
+use layout::sheet;
 
 // The index of the next number, the places in the two pools, and how many bytes the records have so far: at most one more than the
 // limit, so that no sum of lengths wraps.
@@ -20,12 +22,12 @@ pub enum Moved {
 
 // So many bytes more.
 pub fn longer(so_far: usize, more: usize) -> usize
-    requires { ⌜ («so_far» ≤ 16777217) × (more < 2 ^ 60) ⌝ }
+    requires { ⌜ («so_far» ≤ limit + 1) × (more < 2 ^ 60) ⌝ }
     ensures { λ r. ⌜ r ≡ capped («so_far» + more) ⌝ }
 {
     let sum = so_far + more;
-    if sum <= 16777216 {
+    if sum <= sheet::LIMIT {
         return sum;
     }
-    16777217
+    sheet::PAST_LIMIT
 }

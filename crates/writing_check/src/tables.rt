@@ -9,6 +9,7 @@ use crate::places::Moved;
 use crate::places::Places;
 use crate::rows;
 use layout::Refusal;
+use layout::refusals::TABLE;
 
 // How many bytes the records have together, at most one more than the limit; and how many records there are.
 pub struct Totals {
@@ -50,7 +51,7 @@ pub fn check(table: &[u64], elements: &[u64], bytes: &[u8], year: u32) -> Rows
         });
     }
     Rows::Refused(Refusal {
-        number: 14,
+        number: TABLE,
         place: p.number,
         year: 0,
     })

@@ -3,53 +3,67 @@ ghost use mathlib.Core.Path.{_≡_};
 ghost use Prim.Native.Nat.{_+_, _≤_, _<_, _^_};
 ghost use lib.ListN.{length, drop};
 ghost use lib.Seq.{sets};
+ghost use Rattle.layout.specs.Fields.Header;
 ghost use Rattle.writing_emit.specs.Records.{lengthsOf, namesOf, marksOf, countsOf, headerOf, RowFits};
 ghost use Rattle.layout.specs.Shared.Mark.{pointsOf};
+ghost use Rattle.layout.specs.Shared.Row.{rowWidth};
 use fields::numbers;
 use fields::records;
+use layout::header;
+use layout::pieces;
+use layout::row;
+use layout::sheet;
 
 // "+0 identifier 0x7FFF7FFF; +4 total length; +8 metric length"
 fn put_lengths(out: &mut [u8], w: usize, metric: usize, semantics: usize)
-    requires { ⌜ (w + 12 ≤ length (now out)) × (32 + metric + semantics < 2 ^ 32) ⌝ }
+    requires { ⌜ (w + 12 ≤ length (now out)) × (Header.size + metric + semantics < 2 ^ 32) ⌝ }
     ensures { λ _. ⌜ now (out .exit) ≡ sets (now (out .entry)) w (lengthsOf metric semantics) ⌝ }
 {
-    numbers::put_u32(out, w, 0x7FFF7FFF);
-    numbers::put_u32(out, w + 4, (32 + metric + semantics) as u32);
-    numbers::put_u32(out, w + 8, metric as u32);
+    numbers::put_u32(out, w, header::IDENTIFIER_IS);
+    numbers::put_u32(
+        out,
+        w + header::TOTAL,
+        (header::SIZE + metric + semantics) as u32,
+    );
+    numbers::put_u32(out, w + header::METRIC, metric as u32);
 }
 
 // "+12 class code; +16 number in group; +18 group number"
 fn put_names(table: &[u64], at: usize, out: &mut [u8], w: usize)
-    requires { ⌜ (at + 8 ≤ length (now table)) × RowFits (drop at (now table)) × (w + 8 ≤ length (now out)) ⌝ }
+    requires { ⌜ (at + rowWidth ≤ length (now table)) × RowFits (drop at (now table)) × (w + 8 ≤ length (now out)) ⌝ }
     ensures { λ _. ⌜ now (out .exit) ≡ sets (now (out .entry)) w (namesOf (drop at (now (table .entry)))) ⌝ }
 {
     let code = table[at];
-    let in_group = table[at + 1];
-    let group = table[at + 2];
+    let in_group = table[at + row::IN_GROUP];
+    let group = table[at + row::GROUP];
     numbers::put_u32(out, w, code as u32);
-    numbers::put_u16(out, w + 4, in_group as u16);
-    numbers::put_u16(out, w + 6, group as u16);
+    numbers::put_u16(out, w + pieces::IN_GROUP, in_group as u16);
+    numbers::put_u16(out, w + pieces::GROUP, group as u16);
 }
 
 // "+20 to +22 reference bytes; +23 generalisation; +24 a word"
 fn put_marks(table: &[u64], at: usize, out: &mut [u8], w: usize)
-    requires { ⌜ (at + 8 ≤ length (now table)) × RowFits (drop at (now table)) × (w + 8 ≤ length (now out)) ⌝ }
+    requires { ⌜ (at + rowWidth ≤ length (now table)) × RowFits (drop at (now table)) × (w + 8 ≤ length (now out)) ⌝ }
     ensures { λ _. ⌜ now (out .exit) ≡ sets (now (out .entry)) w (marksOf (drop at (now (table .entry)))) ⌝ }
 {
-    let b = records::reference_bytes(table[at + 3]);
+    let b = records::reference_bytes(table[at + row::REFERENCE]);
     numbers::put_u8(out, w, b.b20);
-    numbers::put_u8(out, w + 1, b.b21);
-    numbers::put_u8(out, w + 2, b.b22);
-    numbers::put_u8(out, w + 3, table[at + 4] as u8);
-    numbers::put_u32(out, w + 4, table[at + 5] as u32);
+    numbers::put_u8(out, w + pieces::BYTE21, b.b21);
+    numbers::put_u8(out, w + pieces::BYTE22, b.b22);
+    numbers::put_u8(
+        out,
+        w + pieces::GENERALISATION,
+        table[at + row::GENERALISATION] as u8,
+    );
+    numbers::put_u32(out, w + pieces::WORD, table[at + row::WORD] as u32);
 }
 
 // "Points 65535 is a mark": what stands at +30 for a first count.
 fn points_of(count: u64) -> u16
     ensures { λ r. ⌜ r ≡ pointsOf count ⌝ }
 {
-    if 65535 <= count {
-        return 65535;
+    if sheet::MARK_U64 <= count {
+        return sheet::MARK;
     }
     count as u16
 }
@@ -59,8 +73,12 @@ fn put_counts(table: &[u64], at: usize, out: &mut [u8], w: usize)
     requires { ⌜ (at + 9 ≤ length (now table)) × RowFits (drop at (now table)) × (w + 4 ≤ length (now out)) ⌝ }
     ensures { λ _. ⌜ now (out .exit) ≡ sets (now (out .entry)) w (countsOf (drop at (now (table .entry)))) ⌝ }
 {
-    numbers::put_u16(out, w, (table[at + 6] - 1) as u16);
-    numbers::put_u16(out, w + 2, points_of(table[at + 8]));
+    numbers::put_u16(out, w, (table[at + row::PARTS] - 1) as u16);
+    numbers::put_u16(
+        out,
+        w + pieces::POINTS,
+        points_of(table[at + row::FIRST_POINTS]),
+    );
 }
 
 // The 32 bytes of the record whose row is at an index.
@@ -72,11 +90,11 @@ pub fn put_header(
     out: &mut [u8],
     w: usize,
 )
-    requires { ⌜ (at + 9 ≤ length (now table)) × RowFits (drop at (now table)) × (w + 32 ≤ length (now out)) × (32 + metric + semantics < 2 ^ 32) ⌝ }
+    requires { ⌜ (at + 9 ≤ length (now table)) × RowFits (drop at (now table)) × (w + Header.size ≤ length (now out)) × (Header.size + metric + semantics < 2 ^ 32) ⌝ }
     ensures { λ _. ⌜ now (out .exit) ≡ sets (now (out .entry)) w (headerOf (drop at (now (table .entry))) metric semantics) ⌝ }
 {
     put_lengths(out, w, metric, semantics);
-    put_names(table, at, out, w + 12);
-    put_marks(table, at, out, w + 20);
-    put_counts(table, at, out, w + 28);
+    put_names(table, at, out, w + header::CODE);
+    put_marks(table, at, out, w + header::BYTE20);
+    put_counts(table, at, out, w + header::SUBOBJECTS);
 }

@@ -7,6 +7,7 @@ ghost use lib.Seq.{sets};
 ghost use Rattle.writing_emit.specs.Cursors.{tableOf};
 ghost use Rattle.writing_emit.specs.Pieces.{Piece, Emitted, Counted};
 ghost use Rattle.layout.specs.Bytes.{bytes as bytesOf, flat};
+ghost use Rattle.layout.specs.Fields.Item;
 ghost use Rattle.layout.specs.Layout.Encode.{encodeItem};
 ghost use Rattle.layout.specs.Layout.Fine.{FineItem};
 ghost use Rattle.layout.specs.Shared.Types.{kindOf, lengthBytes};
@@ -14,15 +15,17 @@ ghost use Rattle.layout.specs.Writing.Tables.{joined, flattenItem};
 use crate::cursors::Cursor;
 use fields::copies;
 use fields::numbers;
+use layout::item;
+use layout::row;
 
 // Code, type and scale.
 fn put_head(out: &mut [u8], w: usize, code: u16, kind: u8, scale: u8)
-    requires { ⌜ w + 4 ≤ length (now out) ⌝ }
+    requires { ⌜ w + Item.size ≤ length (now out) ⌝ }
     ensures { λ _. ⌜ now (out .exit) ≡ sets (now (out .entry)) w (bytesOf 2 code ++ bytesOf 1 kind ++ bytesOf 1 scale) ⌝ }
 {
     numbers::put_u16(out, w, code);
-    numbers::put_u8(out, w + 2, kind);
-    numbers::put_u8(out, w + 3, scale);
+    numbers::put_u8(out, w + item::TYPE, kind);
+    numbers::put_u8(out, w + item::SCALE, scale);
 }
 
 // "128: scale 0xFF, then a 4-byte length". How many bytes of length there are comes back.
@@ -33,7 +36,7 @@ fn put_length(out: &mut [u8], w: usize, kind: u8, n: usize) -> usize
 {
     if kind == 128 {
         numbers::put_u32(out, w, n as u32);
-        return 4;
+        return item::LONG_LENGTH_WIDTH;
     }
     0
 }
@@ -45,16 +48,22 @@ pub fn emit_item(table: &[u64], bytes: &[u8], c: Cursor, out: &mut [u8]) -> Curs
 {
     let at = c.number;
     let w = c.out;
-    let kind = table[at + 1] as u8;
-    let n = table[at + 3] as usize;
-    put_head(out, w, table[at] as u16, kind, table[at + 2] as u8);
-    let p = put_length(out, w + 4, kind, n);
-    copies::put_bytes(bytes, c.byte, n, out, w + 4 + p);
+    let kind = table[at + row::ITEM_TYPE] as u8;
+    let n = table[at + row::ITEM_LENGTH] as usize;
+    put_head(
+        out,
+        w,
+        table[at] as u16,
+        kind,
+        table[at + row::ITEM_SCALE] as u8,
+    );
+    let p = put_length(out, w + item::SIZE, kind, n);
+    copies::put_bytes(bytes, c.byte, n, out, w + item::SIZE + p);
     Cursor {
-        number: at + 4,
+        number: at + row::ITEM_WIDTH,
         element: c.element,
         byte: c.byte + n,
-        out: w + 4 + p + n,
+        out: w + item::SIZE + p + n,
     }
 }
 

@@ -15,6 +15,8 @@ use fields::elements;
 use fields::numbers;
 use fields::shapes;
 use fields::shapes::Shape;
+use layout::row;
+use layout::subobject;
 
 // "With text, each part ends with a length byte L, L bytes and one zero." How many bytes that is comes back.
 fn emit_text(bytes: &[u8], at: usize, n: usize, text: bool, out: &mut [u8], w: usize) -> usize
@@ -47,13 +49,13 @@ pub fn emit_part(
     let at = c.number;
     let w = c.out;
     let count = table[at] as usize;
-    let n = table[at + 1] as usize;
+    let n = table[at + row::TEXT_LENGTH] as usize;
     let size = count * shapes::point_size(s);
     let k = shapes::elements_of(count, s.three);
     elements::put_elements(elements, c.element, count, s, out, w);
     let t = emit_text(bytes, c.byte, n, s.text, out, w + size);
     Cursor {
-        number: at + 2,
+        number: at + row::PART_WIDTH,
         element: c.element + k,
         byte: c.byte + n,
         out: w + size + t,
@@ -76,15 +78,15 @@ pub fn emit_subobject(
     let at = c.number;
     let w = c.out;
     let count = table[at];
-    let n1 = (count / 65536) as u16;
-    let n2 = (count % 65536) as u16;
+    let n1 = (count / subobject::UPPER_U64) as u16;
+    let n2 = (count % subobject::UPPER_U64) as u16;
     numbers::put_u16(out, w, n1);
-    numbers::put_u16(out, w + 2, n2);
+    numbers::put_u16(out, w + subobject::N2, n2);
     let d = Cursor {
         number: at,
         element: c.element,
         byte: c.byte,
-        out: w + 4,
+        out: w + subobject::SIZE,
     };
     emit_part(table, elements, bytes, s, d, out)
 }

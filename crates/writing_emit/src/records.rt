@@ -16,13 +16,15 @@ use crate::items;
 use crate::parts;
 use fields::shapes;
 use fields::shapes::Shape;
+use layout::header;
+use layout::row;
 
 // What the reference number of the row at an index says of the record's parts.
 fn shape_at(table: &[u64], at: usize) -> Shape
-    requires { ⌜ at + 8 ≤ length (now table) ⌝ }
+    requires { ⌜ at + Row.rowWidth ≤ length (now table) ⌝ }
     ensures { λ r. ⌜ r ≡ shapeOf (Row.referenceOf (Row.nth (drop at (now (table .entry))) Row.reference)) ⌝ }
 {
-    shapes::shape_in(table[at + 3])
+    shapes::shape_in(table[at + row::REFERENCE])
 }
 
 // A record.
@@ -38,12 +40,12 @@ pub fn emit_record(
         (now (out .entry)) (now (out .exit)) r ⌝ }
 {
     let at = c.number;
-    let w = c.out + 32;
+    let w = c.out + header::SIZE;
     let s = shape_at(table, at);
-    let later = table[at + 6] as usize - 1;
-    let n = table[at + 7] as usize;
+    let later = table[at + row::PARTS] as usize - 1;
+    let n = table[at + row::ITEMS] as usize;
     let first = Cursor {
-        number: at + 8,
+        number: at + row::WIDTH,
         element: c.element,
         byte: c.byte,
         out: w,

@@ -11,7 +11,7 @@ use native.Mathlib.Nat.{add-zero}
 use native.Mathlib.Omega.{arith}
 use Rattle.reading_check.proofs.Laws.Shown.{next, plus, shown-bind, shown-plus}
 use Rattle.reading_check.proofs.Laws.Steps.{step-on, step-stop}
-use Rattle.reading_check.specs.Records.{shortOf, referenceOf, lengthRules, countRules, headerRules, Passed, restWalk, semanticsOf}
+use Rattle.reading_check.specs.Records.{shortOf, referenceOf, lengthRules, countRules, headerChecks, Passed, restWalk, semanticsOf}
 use Rattle.reading_check.specs.Tally.{add, tally, tallyOf, metricTable, shown}
 use Rattle.reading_check.specs.declared.headers.Header.{Header}
 use Rattle.reading_check.specs.declared.tally.Counted.{Counted}
@@ -190,7 +190,7 @@ module _ (y p : ℕ) (xs : List ℕ) where
   record-short h = simp (lt-leb 32 (length xs) h, add-zero)
 
   module _ (l : 32 ≤ length xs) (h : Header) (e : h ≡ shortOf (headerIn xs)) where
-    halves : recordWalk p xs ≡ (checks p (headerRules (length xs) h) >> restWalk p xs)
+    halves : recordWalk p xs ≡ (checks p (headerChecks (length xs) h) >> restWalk p xs)
     unfolding recordWalk recordWith headerWalk lengthChecks countChecks restWalk
     halves =
         let k : Header = shortOf (headerIn xs) in
@@ -202,16 +202,16 @@ module _ (y p : ℕ) (xs : List ℕ) where
         ∙ ap (λ w. checks p A >> w) (bind-assoc (checks p B) (λ _. checks p C) (λ _. restWalk p xs))
         ∙ sym (checks-append p A (B ++ C) (restWalk p xs) ∙ ap (λ w. checks p A >> w) (checks-append p B C (restWalk p xs))))
 
-    module _ (r : Step) (n : Next Stp.Fine y p (headerRules (length xs) h) r) where
+    module _ (r : Step) (n : Next Stp.Fine y p (headerChecks (length xs) h) r) where
       pub record-on : r ≡ Stp.Fine → (m : Counted) → m ≡ shown (tally flattenRecord) y (restWalk p xs) → m ≡ shown (tally flattenRecord) y (recordWalk p xs)
-      record-on f m g = g ∙ sym (ap (shown (tally flattenRecord) y) halves ∙ step-on y (tally flattenRecord) p (headerRules (length xs) h) (restWalk p xs) r n f)
+      record-on f m g = g ∙ sym (ap (shown (tally flattenRecord) y) halves ∙ step-on y (tally flattenRecord) p (headerChecks (length xs) h) (restWalk p xs) r n f)
 
       pub record-stop : (q : Refusal) → r ≡ Stp.Refused q → Refused q ≡ shown (tally flattenRecord) y (recordWalk p xs)
-      record-stop q f = step-stop y (tally flattenRecord) p (headerRules (length xs) h) (restWalk p xs) r n q f ∙ sym (ap (shown (tally flattenRecord) y) halves)
+      record-stop q f = step-stop y (tally flattenRecord) p (headerChecks (length xs) h) (restWalk p xs) r n q f ∙ sym (ap (shown (tally flattenRecord) y) halves)
 
       pub record-passed : r ≡ Stp.Fine → Passed xs h
       record-passed f =
-          let a = step-holds y p (headerRules (length xs) h) r n f in
+          let a = step-holds y p (headerChecks (length xs) h) r n f in
           let low : 32 ≤ h .total = leb-true 32 (h .total) (a .1 .0) in
           let high : h .total ≤ length xs = leb-true (h .total) (length xs) (a .1 .1 .0) in
           let metric : h .metric ≤ h .total - 32 = leb-true (h .metric) (h .total - 32) (a .1 .1 .1 .0) in

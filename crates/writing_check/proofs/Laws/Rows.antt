@@ -35,7 +35,7 @@ use Rattle.laws.proofs.Writing.Parts.{FineFirst, firstYears, first-takes, subob
 use Rattle.laws.proofs.Writing.Takes.{Takes, join-assoc, length-joined, many-takes}
 use Rattle.writing_check.proofs.Laws.Moves.{Went, went, stopped, number-after, moved-moved, moved-stop}
 use Rattle.writing_check.specs.Places.{capped, here, moved, movedOf, At}
-use Rattle.writing_check.specs.Rows.{rowOf, rowChecks, insideTable, insideBytes}
+use Rattle.writing_check.specs.Rows.{rowOf, allRules, insideTable, insideBytes}
 use Rattle.writing_check.specs.declared.places.Moved.{Moved}
 use Rattle.writing_check.specs.declared.places.Moved.the-variants.{Fine, Refused}
 use Rattle.writing_check.specs.declared.places.Places.{Places}
@@ -72,7 +72,7 @@ pub record Roomy (a : RecordRow) (left : ℕ) : Type 0 where
   pub size : 8 + (2 * a .parts + 4 * a .items) ≤ left
   pub some : 1 ≤ a .parts
 
-pub row-roomy : (a : RecordRow) (left : ℕ) → holds (rowChecks a left) → Roomy a left
+pub row-roomy : (a : RecordRow) (left : ℕ) → holds (allRules a left) → Roomy a left
 unfolding countRules
 row-roomy a left c =
     let ref = referenceChecks 3 3 3 (a .referenceBytes) in
@@ -221,7 +221,7 @@ module _ (y : ℕ) (ns es pool : List ℕ) (a : RecordRow) (p : Places) where
 abbrev rowWith : RecordRow → ℕ → Table → Walk (Taken Record)
 rowWith r i u = rowRules r i (length (u .numbers)) >> takeInside r (i + 8) (table (drop 8 (u .numbers)) (u .elements) (u .bytes))
 
-row-rules : {A : Type 0} (r : RecordRow) (i left : ℕ) (w : Walk A) → 8 ≤ left → (rowRules r i left >> w) ≡ (checks i (rowChecks r left) >> w)
+row-rules : {A : Type 0} (r : RecordRow) (i left : ℕ) (w : Walk A) → 8 ≤ left → (rowRules r i left >> w) ≡ (checks i (allRules r left) >> w)
 unfolding rowRules roomRules
 row-rules r i left w h =
     let S : List Check = must (leb (Index.rowSize (r .parts) (r .items)) left) 14 0 ∷ [] in
@@ -246,7 +246,7 @@ module _ (y : ℕ) (ns es pool : List ℕ) (p : Places) where
       rw (lt-leb 8 (length (drop (p .number) ns)) (omega (arith, h, length-drop (p .number) ns)), add-zero (p .number)) refl
 
   module _ (h : 8 ≤ length ns - p .number) (a : Row) (row : rowOf a ≡ rowIn (drop (p .number) ns)) (r : Step)
-      (n : Next Stp.Fine y (p .number) (rowChecks (rowOf a) (length ns - p .number)) r) (len : ℕ) (l : len ≡ capped (p .length + 32)) where
+      (n : Next Stp.Fine y (p .number) (allRules (rowOf a) (length ns - p .number)) r) (len : ℕ) (l : len ≡ capped (p .length + 32)) where
     -- the places after the eight numbers
     abbrev after : Places
     after = record { number = p .number + 8; element = p .element; byte = p .byte; length = len }
@@ -254,7 +254,7 @@ module _ (y : ℕ) (ns es pool : List ℕ) (p : Places) where
     abbrev rest : Walk (Taken Record)
     rest = takeInside (rowOf a) (p .number + 8) (here all after)
 
-    row-walk : rowWalk (p .number) (here all p) ≡ (checks (p .number) (rowChecks (rowOf a) (length ns - p .number)) >> rest)
+    row-walk : rowWalk (p .number) (here all p) ≡ (checks (p .number) (allRules (rowOf a) (length ns - p .number)) >> rest)
     unfolding rowWalk
     row-walk =
         let u = here all p in

@@ -1,29 +1,10 @@
-use denote.Ref.{now}
-use Rattle.reading.proofs.Laws.Seen.{seen}
-use Rattle.reading.proofs.Laws.Asked.{read, head-right, head-refused}
+-- The call by year, at the year of the setting.
 use borrow.Author.Needs.{needs}
 use Rattle.reading.proofs.heads.head_of.Statement.{statement}
 use Rattle.reading.proofs.heads.head_of.Tie as tie
 
-head-in-requires : tie.Need-head-in-requires
-head-in-requires c κs =
-    let start = c .before .before .before .before in
-    let check = c .before .before .check in
-    read (start .args .setting .year) (now (start .args .s)) _ (seen _ _ _ _ (check .ensures) (c .enum-told .given .1))
-
 returns : tie.Need-returns
-returns c =
-    let start = c .before .before .before .before .before in
-    let check = c .before .before .before .check in
-    head-right (start .args .setting .year) (now (start .args .s)) _ (seen _ _ _ _ (check .ensures) (c .before .enum-told .given .1)) _
-    (c .head-in .ensures)
-
-returns-2 : tie.Need-returns-2
-returns-2 c =
-    let start = c .before .before .before .before .before in
-    let check = c .before .before .before .check in
-    head-refused (start .args .setting .year) (now (start .args .s)) _ _ (check .ensures) (c .before .r .given .1)
+returns c = rw (c .before .year .ensures) at (c .head-by-year .ensures)
 
 pub head-of-spec : {M : Type 1} → statement M
-head-of-spec =
-    tie.close (tie.spec (λ c κs. search needs) (λ c. search needs) head-in-requires (λ c. search needs) returns returns-2)
+head-of-spec = tie.close (tie.spec (λ c κs. search needs) (λ c κs. search needs) returns)

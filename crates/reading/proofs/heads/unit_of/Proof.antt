@@ -1,29 +1,10 @@
-use denote.Ref.{now}
-use Rattle.reading.proofs.Laws.Seen.{seen}
-use Rattle.reading.proofs.Laws.Asked.{read, unit-right, unit-refused}
+-- The call by year, at the year of the setting.
 use borrow.Author.Needs.{needs}
 use Rattle.reading.proofs.heads.unit_of.Statement.{statement}
 use Rattle.reading.proofs.heads.unit_of.Tie as tie
 
-unit-in-requires : tie.Need-unit-in-requires
-unit-in-requires c κs =
-    let start = c .before .before .before .before in
-    let check = c .before .before .check in
-    read (start .args .setting .year) (now (start .args .s)) _ (seen _ _ _ _ (check .ensures) (c .enum-told .given .1))
-
 returns : tie.Need-returns
-returns c =
-    let start = c .before .before .before .before .before in
-    let check = c .before .before .before .check in
-    unit-right (start .args .setting .year) (now (start .args .s)) _ (seen _ _ _ _ (check .ensures) (c .before .enum-told .given .1)) _
-    (c .unit-in .ensures)
-
-returns-2 : tie.Need-returns-2
-returns-2 c =
-    let start = c .before .before .before .before .before in
-    let check = c .before .before .before .check in
-    unit-refused (start .args .setting .year) (now (start .args .s)) _ _ (check .ensures) (c .before .r .given .1)
+returns c = rw (c .before .year .ensures) at (c .unit-by-year .ensures)
 
 pub unit-of-spec : {M : Type 1} → statement M
-unit-of-spec =
-    tie.close (tie.spec (λ c κs. search needs) (λ c. search needs) unit-in-requires (λ c. search needs) returns returns-2)
+unit-of-spec = tie.close (tie.spec (λ c κs. search needs) (λ c κs. search needs) returns)

@@ -17,10 +17,10 @@ returns c =
     let demand3 = c .before .before .before .before .before .before .before .before .demand3 in
     let beside = c .before .before .before .before .before .before .before .beside in
     let demand4 = c .before .before .before .before .before .demand4 in
-    let reference = c .before .before .before .before .reference in
+    let reference-checks = c .before .before .before .before .reference-checks in
     let feature = c .before .before .feature in
     demand .ensures _ ▸ demand2 .ensures _ ▸ demand3 .ensures _ ▸ (rw (beside .ensures) at (demand4 .ensures (start .args .year)))
-    ▸ reference .ensures ▸ feature .ensures ▸ c .demand5 .ensures _
+    ▸ reference-checks .ensures ▸ feature .ensures ▸ c .demand5 .ensures _
 
 pub check-header-spec : {M : Type 1} → statement M
 check-header-spec =

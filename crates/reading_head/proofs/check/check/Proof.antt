@@ -7,13 +7,13 @@ use borrow.Author.Needs.{needs}
 use Rattle.reading_head.proofs.check.check.Statement.{statement}
 use Rattle.reading_head.proofs.check.check.Tie as tie
 
-rest-of-passport-requires : tie.Need-rest-of-passport-requires
-rest-of-passport-requires c κs =
+rest-checks-requires : tie.Need-rest-checks-requires
+rest-checks-requires c κs =
     let start = c .before .before .before in
     rw (c .part .ensures) (omega (arith, part-length (now (start .args .s)) 96 304 (omega arith)))
 
-carried-requires : tie.Need-carried-requires
-carried-requires c κs =
+carried-checks-requires : tie.Need-carried-checks-requires
+carried-checks-requires c κs =
     let start = c .before .before .before .before .before .before .before .before in
     rw (c .part2 .ensures) (omega (arith, part-length (now (start .args .s)) 444 4 (omega arith)))
 
@@ -23,19 +23,19 @@ returns c =
     let year = c .before .before .before .before .before .before .before .before .before .before .before .before .args .year in
     let check-passport = c .before .before .before .before .before .before .before .before .before .before .check-passport in
     let part = c .before .before .before .before .before .before .before .before .before .part in
-    let rest-of-passport = c .before .before .before .before .before .before .before .before .rest-of-passport in
+    let rest-checks = c .before .before .before .before .before .before .before .before .rest-checks in
     let fixed = c .before .before .before .before .before .before .before .fixed in
     let fixed2 = c .before .before .before .before .before .before .fixed2 in
     let text = c .before .before .before .before .before .text in
     let part2 = c .before .before .before .before .part2 in
-    let carried = c .before .before .before .carried in
+    let carried-checks = c .before .before .before .carried-checks in
     let part3 = c .before .before .part3 in
     check-passport .ensures year
-    ▸ (rw (part .ensures) at (rest-of-passport .ensures))
+    ▸ (rw (part .ensures) at (rest-checks .ensures))
     ▸ fixed .ensures year
     ▸ fixed2 .ensures year
     ▸ text .ensures year
-    ▸ (rw (part2 .ensures) at (carried .ensures))
+    ▸ (rw (part2 .ensures) at (carried-checks .ensures))
     ▸ (rw (c .before .all-zero .ensures, part3 .ensures) at (c .demand .ensures year))
 
 pub check-spec : {M : Type 1} → statement M
@@ -44,12 +44,12 @@ check-spec =
     (tie.spec
     (λ c κs. search needs)
     (λ c κs. search needs)
-    rest-of-passport-requires
+    rest-checks-requires
     (λ c κs. search needs)
     (λ c κs. search needs)
     (λ c κs. search needs)
     (λ c κs. search needs)
-    carried-requires
+    carried-checks-requires
     (λ c κs. search needs)
     (λ c κs. search needs)
     (λ c κs. search needs)

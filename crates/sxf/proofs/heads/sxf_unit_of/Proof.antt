@@ -1,37 +1,12 @@
-use denote.Ref.{now}
+-- The answer of the reader's call, as C holds it.
 use mathlib.Core.Path.{ap, _∙_}
-use Rattle.layout.specs.Answers.Calls.{reading}
-use Rattle.layout.specs.Answers.Enums.{unitIn}
-use Rattle.sxf.proofs.Laws.Settings.{known, unit-unknown}
 use Rattle.layout.specs.Answers.Structs.{unitRow}
 use borrow.Author.Needs.{needs}
 use Rattle.sxf.proofs.heads.sxf_unit_of.Statement.{statement}
 use Rattle.sxf.proofs.heads.sxf_unit_of.Tie as tie
 
 returns : tie.Need-returns
-returns c =
-    let start = c .before .before .before .before .before .before .before in
-    let new = c .before .before .before .before .before .new in
-    let at = c .before .before .before .at in
-    known (λ z. unitIn (reading z (now (start .args .sheet)))) unitRow (start .args .year) _ _ _ _ (new .ensures .0) (at .given .1)
-    (c .before .unit-of .ensures) (c .unit-row .ensures)
-
-returns-2 : tie.Need-returns-2
-returns-2 c =
-    let start = c .before .before .before .before .before .before in
-    let new = c .before .before .before .before .new in
-    let r = c .before .before .r in
-    c .unit-row2 .ensures ∙ ap unitRow (unit-unknown (start .args .year) _ (now (start .args .sheet)) _ (new .ensures .0) (r .given .1))
+returns c = c .unit-row .ensures ∙ ap unitRow (c .before .unit-by-year .ensures)
 
 pub sxf-unit-of-spec : {M : Type 1} → statement M
-sxf-unit-of-spec =
-    tie.close
-    (tie.spec
-    (λ c κs. search needs)
-    (λ c. search needs)
-    (λ c κs. search needs)
-    (λ c κs. search needs)
-    (λ c. search needs)
-    (λ c κs. search needs)
-    returns
-    returns-2)
+sxf-unit-of-spec = tie.close (tie.spec (λ c κs. search needs) (λ c κs. search needs) returns)

@@ -14,37 +14,37 @@ add-t12 : tie.Need-add-t12
 add-t12 c =
     let start = c .before .before .before .before .before .before .before in
     let read-item = c .before .before .before .before .read-item in
-    let item-checks = c .before .before .before .item-checks in
-    let z = item-size _ (now (start .args .table)) [] (now (start .args .bytes)) (start .args .p) _ (read-item .ensures) (item-checks .result)
-    (item-checks .ensures) (c .before .enum-told .given .1) in
+    let item-rules = c .before .before .before .item-rules in
+    let z = item-size _ (now (start .args .table)) [] (now (start .args .bytes)) (start .args .p) _ (read-item .ensures) (item-rules .result)
+    (item-rules .ensures) (c .before .enum-told .given .1) in
     omega (arith, z, length-drop (start .args .p .byte) (now (start .args .bytes)))
 
 item-length-requires : tie.Need-item-length-requires
 item-length-requires c κs =
     let start = c .before .before .before .before .before .before .before in
     let read-item = c .before .before .before .before .read-item in
-    let item-checks = c .before .before .before .item-checks in
-    let z = item-size _ (now (start .args .table)) [] (now (start .args .bytes)) (start .args .p) _ (read-item .ensures) (item-checks .result)
-    (item-checks .ensures) (c .before .enum-told .given .1) in
+    let item-rules = c .before .before .before .item-rules in
+    let z = item-size _ (now (start .args .table)) [] (now (start .args .bytes)) (start .args .p) _ (read-item .ensures) (item-rules .result)
+    (item-rules .ensures) (c .before .enum-told .given .1) in
     omega (arith, z)
 
 returns : tie.Need-returns
 returns c =
     let start = c .before .before .before .before .before .before .before .before .before in
     let read-item = c .before .before .before .before .before .before .read-item in
-    let item-checks = c .before .before .before .before .before .item-checks in
+    let item-rules = c .before .before .before .before .before .item-rules in
     let enum-told = c .before .before .before .enum-told in
-    λ es. item-fine _ (now (start .args .table)) es (now (start .args .bytes)) (start .args .p) _ (read-item .ensures) (item-checks .result)
-    (item-checks .ensures) (enum-told .given .1) _
+    λ es. item-fine _ (now (start .args .table)) es (now (start .args .bytes)) (start .args .p) _ (read-item .ensures) (item-rules .result)
+    (item-rules .ensures) (enum-told .given .1) _
     (c .longer .ensures ∙ ap (λ n. capped (start .args .p .length + n)) (c .before .item-length .ensures .0))
 
 returns-2 : tie.Need-returns-2
 returns-2 c =
     let start = c .before .before .before .before .before .before .before in
     let read-item = c .before .before .before .before .read-item in
-    let item-checks = c .before .before .before .item-checks in
-    λ es. item-stop _ (now (start .args .table)) es (now (start .args .bytes)) (start .args .p) _ (read-item .ensures) (item-checks .result)
-    (item-checks .ensures) _ (c .before .r .given .1)
+    let item-rules = c .before .before .before .item-rules in
+    λ es. item-stop _ (now (start .args .table)) es (now (start .args .bytes)) (start .args .p) _ (read-item .ensures) (item-rules .result)
+    (item-rules .ensures) _ (c .before .r .given .1)
 
 pub take-item-spec : {M : Type 1} → statement M
 take-item-spec =

@@ -12,31 +12,31 @@ use Rattle.writing_check.proofs.parts.take_later.Tie as tie
 take-pools-requires : tie.Need-take-pools-requires
 take-pools-requires c κs =
     let start = c .before .before .before .before .before .before .before .before in
-    let later-checks = c .before .before .later-checks in
+    let later-rules = c .before .before .later-rules in
     let h = start .pre .0 in (
       start .pre .1,
       h .byte,
       omega arith,
       h .length,
-      later-small _ _ (step-holds 0 _ _ (later-checks .result) (later-checks .ensures 0) (c .enum-told .given .1)),
+      later-small _ _ (step-holds 0 _ _ (later-rules .result) (later-rules .ensures 0) (c .enum-told .given .1)),
       omega arith,
     )
 
 returns : tie.Need-returns
 returns c =
     let start = c .before .before .before .before .before .before .before .before .before in
-    let later-checks = c .before .before .before .later-checks in
+    let later-rules = c .before .before .before .later-rules in
     λ y. part-on y (now (start .args .table)) (now (start .args .elements)) (now (start .args .bytes)) (start .args .p)
     (referenceOf (start .args .reference)) (laterRules (start .args .marked)) (subobjectBytes (referenceOf (start .args .reference)))
-    (later-checks .result) (later-checks .ensures y) (c .before .enum-told .given .1) _ (c .take-pools .ensures y (now (start .args .table)))
+    (later-rules .result) (later-rules .ensures y) (c .before .enum-told .given .1) _ (c .take-pools .ensures y (now (start .args .table)))
 
 returns-2 : tie.Need-returns-2
 returns-2 c =
     let start = c .before .before .before .before .before .before .before .before .before in
-    let later-checks = c .before .before .before .later-checks in
+    let later-rules = c .before .before .before .later-rules in
     λ y. part-stop y (now (start .args .table)) (now (start .args .elements)) (now (start .args .bytes)) (start .args .p)
     (referenceOf (start .args .reference)) (laterRules (start .args .marked)) (subobjectBytes (referenceOf (start .args .reference)))
-    (later-checks .result) (later-checks .ensures y) _ (c .before .r .given .1)
+    (later-rules .result) (later-rules .ensures y) _ (c .before .r .given .1)
 
 pub take-later-spec : {M : Type 1} → statement M
 take-later-spec =

@@ -14,31 +14,31 @@ add-t17 : tie.Need-add-t17
 add-t17 c =
     let start = c .before .before .before .before .before .before .before .before .before .before in
     let shape-in = c .before .before .before .before .before .before .before .shape-in in
-    let pool-checks = c .before .before .before .before .before .before .pool-checks in
+    let pool-rules = c .before .before .before .before .before .before .pool-rules in
     let enum-told = c .before .before .before .before .enum-told in
     let f = pools-fit 0 [] (now (start .args .elements)) (now (start .args .bytes)) (start .args .p) (referenceOf (start .args .reference)) _
-    (shape-in .ensures) _ (start .args .size) 0 (pool-checks .result) (pool-checks .ensures 0) (enum-told .given .1) in
+    (shape-in .ensures) _ (start .args .size) 0 (pool-rules .result) (pool-rules .ensures 0) (enum-told .given .1) in
     omega (arith, f .2, start .pre .1)
 
 part-length-requires : tie.Need-part-length-requires
 part-length-requires c κs =
     let start = c .before .before .before .before .before .before .before .before .before .before in
     let shape-in = c .before .before .before .before .before .before .before .shape-in in
-    let pool-checks = c .before .before .before .before .before .before .pool-checks in
+    let pool-rules = c .before .before .before .before .before .before .pool-rules in
     let enum-told = c .before .before .before .before .enum-told in
     let f = pools-fit 0 [] (now (start .args .elements)) (now (start .args .bytes)) (start .args .p) (referenceOf (start .args .reference)) _
-    (shape-in .ensures) _ (start .args .size) 0 (pool-checks .result) (pool-checks .ensures 0) (enum-told .given .1) in
+    (shape-in .ensures) _ (start .args .size) 0 (pool-rules .result) (pool-rules .ensures 0) (enum-told .given .1) in
     (start .pre .4, f .1)
 
 returns : tie.Need-returns
 returns c =
     let start = c .before .before .before .before .before .before .before .before .before .before .before .before in
     let shape-in = c .before .before .before .before .before .before .before .before .before .shape-in in
-    let pool-checks = c .before .before .before .before .before .before .before .before .pool-checks in
+    let pool-rules = c .before .before .before .before .before .before .before .before .pool-rules in
     let enum-told = c .before .before .before .before .before .before .enum-told in
     let elements-of = c .before .before .before .before .before .elements-of in
     λ y ns. pool-fine y ns (now (start .args .elements)) (now (start .args .bytes)) (start .args .p) (referenceOf (start .args .reference)) _
-    (shape-in .ensures) _ (start .args .size) (start .args .head) (pool-checks .result) (pool-checks .ensures y) (enum-told .given .1) _
+    (shape-in .ensures) _ (start .args .size) (start .args .head) (pool-rules .result) (pool-rules .ensures y) (enum-told .given .1) _
     (elements-of .ensures .0) _
     (c .longer .ensures ∙ ap (λ n. capped (start .args .p .length + (start .args .head + n))) (c .before .part-length .ensures .0))
 
@@ -46,9 +46,9 @@ returns-2 : tie.Need-returns-2
 returns-2 c =
     let start = c .before .before .before .before .before .before .before in
     let shape-in = c .before .before .before .before .shape-in in
-    let pool-checks = c .before .before .before .pool-checks in
+    let pool-rules = c .before .before .before .pool-rules in
     λ y ns. pool-stop y ns (now (start .args .elements)) (now (start .args .bytes)) (start .args .p) (referenceOf (start .args .reference)) _
-    (shape-in .ensures) _ (start .args .size) (start .args .head) (pool-checks .result) (pool-checks .ensures y) _ (c .before .r .given .1)
+    (shape-in .ensures) _ (start .args .size) (start .args .head) (pool-rules .result) (pool-rules .ensures y) _ (c .before .r .given .1)
 
 pub take-pools-spec : {M : Type 1} → statement M
 take-pools-spec =

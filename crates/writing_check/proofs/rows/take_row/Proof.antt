@@ -18,10 +18,10 @@ take-inside-requires c κs =
     let start = c .before .before .before .before .before .before .before .before .before in
     let if1 = c .before .before .before .before .before .if1 in
     let read-row = c .before .before .before .before .read-row in
-    let row-checks = c .before .before .before .row-checks in
+    let row-rules = c .before .before .before .row-rules in
     let h = start .pre .0 in
     let k = row-room (start .args .year) (now (start .args .table)) (now (start .args .elements)) (now (start .args .bytes)) (start .args .p)
-    (if1 .left) (read-row .result) (read-row .ensures) (row-checks .result) (row-checks .ensures) _ (c .longer .ensures)
+    (if1 .left) (read-row .result) (read-row .ensures) (row-rules .result) (row-rules .ensures) _ (c .longer .ensures)
     (c .before .enum-told .given .1) in (
       record
           { number = omega arith; byte = h .byte; length = rw (c .longer .ensures) (capped-low (start .args .p .length + 32)); isBytes = h .isBytes },
@@ -35,10 +35,10 @@ returns-2 c =
     let start = c .before .before .before .before .before .before .before .before .before .before in
     let if1 = c .before .before .before .before .before .before .if1 in
     let read-row = c .before .before .before .before .before .read-row in
-    let row-checks = c .before .before .before .before .row-checks in
+    let row-rules = c .before .before .before .before .row-rules in
     let enum-told = c .before .before .enum-told in
     row-on (start .args .year) (now (start .args .table)) (now (start .args .elements)) (now (start .args .bytes)) (start .args .p)
-    (if1 .left) _ (read-row .ensures) (row-checks .result) (row-checks .ensures) _ (c .before .longer .ensures) (enum-told .given .1)
+    (if1 .left) _ (read-row .ensures) (row-rules .result) (row-rules .ensures) _ (c .before .longer .ensures) (enum-told .given .1)
     (c .take-inside .result) (c .take-inside .ensures)
 
 returns-3 : tie.Need-returns-3
@@ -46,9 +46,9 @@ returns-3 c =
     let start = c .before .before .before .before .before .before .before .before .before in
     let if1 = c .before .before .before .before .before .if1 in
     let read-row = c .before .before .before .before .read-row in
-    let row-checks = c .before .before .before .row-checks in
+    let row-rules = c .before .before .before .row-rules in
     row-stop (start .args .year) (now (start .args .table)) (now (start .args .elements)) (now (start .args .bytes)) (start .args .p)
-    (if1 .left) _ (read-row .ensures) (row-checks .result) (row-checks .ensures) _ refl _ (c .before .r .given .1)
+    (if1 .left) _ (read-row .ensures) (row-rules .result) (row-rules .ensures) _ refl _ (c .before .r .given .1)
 
 pub take-row-spec : {M : Type 1} → statement M
 take-row-spec =

@@ -17,7 +17,7 @@ returns c =
     let text-fits = c .before .before .before .before .before .text-fits in
     let text-fits2 = c .before .before .before .before .text-fits2 in
     let text-fits3 = c .before .before .before .text-fits3 in
-    let rest-of-passport = c .before .before .rest-of-passport in
+    let rest-checks = c .before .before .rest-checks in
     let text-fits4 = c .before .text-fits4 in
     let year = start .args .year in
     let date : Next _ year 0 (textFits Passport.date (now (start .args .date)) ∷ []) (text-fits .result) = text-fits .ensures year in
@@ -26,7 +26,7 @@ returns c =
     let title : Next _ year 0 (textFits Passport.title (now (start .args .title)) ∷ []) (text-fits3 .result) = text-fits3 .ensures year in
     let designation2 : Next _ year 0 (textFits Descriptor.designation (now (start .args .designation2)) ∷ [])
     (text-fits4 .result) = text-fits4 .ensures year in
-    λ scale. date ▸ designation ▸ title ▸ rest-of-passport .ensures ▸ designation2 ▸ c .carried .ensures
+    λ scale. date ▸ designation ▸ title ▸ rest-checks .ensures ▸ designation2 ▸ c .carried-checks .ensures
 
 pub check-spec : {M : Type 1} → statement M
 check-spec =

@@ -1,0 +1,26 @@
+use mathlib.Core.List.{[], _∷_}
+use mathlib.Core.Path.{ap}
+use Rattle.fields.proofs.Laws.Chain.{_▸_, as-checks}
+use Rattle.layout.specs.Walk.{must}
+use borrow.Author.Needs.{needs}
+use Rattle.writing_check.proofs.rows.row_rules.Statement.{statement}
+use Rattle.writing_check.proofs.rows.row_rules.Tie as tie
+
+returns : tie.Need-returns
+returns c =
+    let room = c .before .before .before .before .room in
+    let demand = c .before .before .before .demand in
+    let name-rules = c .before .before .name-rules in
+    as-checks (ap (λ b. must b 14 0 ∷ []) (room .ensures)) (demand .ensures _) ▸ name-rules .ensures _ ▸ c .before .reference-rules .ensures
+    ▸ c .count-rules .ensures _
+
+pub row-rules-spec : {M : Type 1} → statement M
+row-rules-spec =
+    tie.close
+    (tie.spec
+    (λ c κs. search needs)
+    (λ c κs. search needs)
+    (λ c κs. search needs)
+    (λ c κs. search needs)
+    (λ c κs. search needs)
+    returns)
