@@ -33,12 +33,12 @@ static const uint8_t bytes[] = { 0xF9, 0x04 };
 enum { NUMBERS = 16, ELEMENTS = 8, BYTES = 2, LENGTH = 452 + 32 + 12 + 8 + 6 };
 
 static uint8_t sheet[LENGTH], rest[304];
-static const uint8_t flags[4] = { 3, 0, 0, 0 };
+static const uint8_t carried[4] = { 3, 0, 0, 0 };
 
 static sxf_written written(uint32_t year, const uint64_t *numbers, size_t out_len)
 {
     const uint8_t *texts = (const uint8_t *)"abcdefghij";
-    return sxf_write(year, texts, 1, texts + 1, 2, 5, texts + 3, 3, rest, texts + 6, 4, flags, numbers, NUMBERS, elements, ELEMENTS, bytes, BYTES,
+    return sxf_write(year, texts, 1, texts + 1, 2, 5, texts + 3, 3, rest, texts + 6, 4, carried, numbers, NUMBERS, elements, ELEMENTS, bytes, BYTES,
                      sheet, out_len);
 }
 

@@ -161,7 +161,7 @@ static int write_back(const char *path, const opened *o, uint8_t *out, size_t ou
     if (h.number != SXF_OK)
         return refused(path, h.number, h.place, h.year);
     sxf_written w = sxf_write(YEAR, s + SXF_DATE_AT, h.date, s + SXF_DESIGNATION_AT, h.designation, (uint32_t)h.scale, s + SXF_TITLE_AT, h.title,
-                              s + SXF_REST_AT, s + SXF_DESIGNATION2_AT, h.designation2, s + SXF_FLAGS_AT, o->table, o->sizes.numbers, o->elements,
+                              s + SXF_REST_AT, s + SXF_DESIGNATION2_AT, h.designation2, s + SXF_CARRIED_AT, o->table, o->sizes.numbers, o->elements,
                               o->sizes.elements, o->bytes, o->sizes.bytes, out, out_len);
     *length = w.length;
     return w.number == SXF_OK ? LISTED : refused(path, w.number, w.place, w.year);

@@ -56,12 +56,16 @@ enum {
     SXF_TITLE_AT = 64,
     SXF_REST_AT = 96,
     SXF_DESIGNATION2_AT = 408,
-    SXF_FLAGS_AT = 444,
+    SXF_CARRIED_AT = 444,
     SXF_RECORDS_AT = 452, /* the first record, where there is one */
     SXF_REST_SIZE = 304,
-    SXF_FLAGS_SIZE = 4,
+    SXF_CARRIED_SIZE = 4,
     SXF_LIMIT = 16777216  /* bytes of a sheet at most */
 };
+
+/* The earlier names of the four carried bytes, for programs that have them. */
+#define SXF_FLAGS_AT SXF_CARRIED_AT
+#define SXF_FLAGS_SIZE SXF_CARRIED_SIZE
 
 /* What a sheet has: its sum, its count of records, and the lengths of the three parts of its record table. */
 typedef struct {
@@ -158,7 +162,7 @@ typedef struct {
 
 /*
  * Writes a sheet from its head and its record table, as sxf_head_of and sxf_unfold answer them. Texts are without a zero: the date is
- * at most 11 bytes, the others 31. rest has the 304 bytes from 96 on, flags the four from 444 on. The sum, the counts and all lengths
+ * at most 11 bytes, the others 31. rest has the 304 bytes from 96 on, carried the four from 444 on. The sum, the counts and all lengths
  * are computed. SXF_LIMIT bytes of out are always enough.
  */
 sxf_written sxf_write(uint32_t year,
@@ -168,7 +172,7 @@ sxf_written sxf_write(uint32_t year,
                       const uint8_t *title, size_t title_len,
                       const uint8_t rest[304],
                       const uint8_t *designation2, size_t designation2_len,
-                      const uint8_t flags[4],
+                      const uint8_t carried[4],
                       const uint64_t *table, size_t table_len,
                       const uint64_t *elements, size_t elements_len,
                       const uint8_t *bytes, size_t bytes_len,

@@ -2,7 +2,8 @@
 //! in every run.
 
 use crate::random::Random;
-use crate::sheets::{Element, Record, Sheet};
+use crate::sheets::{Record, Sheet};
+use sxf::ElementKind;
 
 pub struct Base {
     pub name: &'static str,
@@ -17,7 +18,7 @@ const TEXTS: [&[u8]; 3] = [b"\xCC\xEE\xF1\xEA\xE2\xE0", b"\xD0\xE5\xEA\xE0 \xCE\
 
 struct Maker {
     random: Random,
-    element: Element,
+    element: ElementKind,
     heights: bool,
 }
 
@@ -25,10 +26,10 @@ impl Maker {
     fn point(&mut self) -> [f64; 3] {
         let mut draw = |from: f64, size: f64| from + size * self.random.unit();
         let [x, y] = match self.element {
-            Element::Integer2 => [draw(0.0, 32_767.0).floor(), draw(0.0, 32_767.0).floor()],
-            Element::Integer4 => [draw(-9e5, 2e6).floor(), draw(-9e5, 2e6).floor()],
-            Element::Float4 => [draw(-9e5, 2e6), draw(-9e5, 2e6)],
-            Element::Float8 => [draw(6e6, 5e3), draw(7.5e6, 5e3)],
+            ElementKind::Short => [draw(0.0, 32_767.0).floor(), draw(0.0, 32_767.0).floor()],
+            ElementKind::Long => [draw(-9e5, 2e6).floor(), draw(-9e5, 2e6).floor()],
+            ElementKind::Single => [draw(-9e5, 2e6), draw(-9e5, 2e6)],
+            ElementKind::Double => [draw(6e6, 5e3), draw(7.5e6, 5e3)],
         };
         [x, y, if self.heights { draw(-100.0, 900.0) } else { 0.0 }]
     }
@@ -88,7 +89,7 @@ impl Maker {
 }
 
 /// A sheet of `count` records made by `record`.
-fn base(name: &'static str, element: Element, heights: bool, count: usize, record: impl Fn(&mut Maker) -> Record) -> Base {
+fn base(name: &'static str, element: ElementKind, heights: bool, count: usize, record: impl Fn(&mut Maker) -> Record) -> Base {
     let mut maker = Maker { random: Random(name.len() as u64), element, heights };
     let records = (0..count).map(|_| record(&mut maker)).collect();
     Base { name, sheet: Sheet::real(records) }
@@ -106,32 +107,32 @@ fn mixed(maker: &mut Maker) -> Record {
 }
 
 pub fn all(count: usize) -> Vec<Base> {
-    use Element::{Float4, Float8, Integer2, Integer4};
+    use ElementKind::{Double, Long, Short, Single};
     let device = |mut base: Base| {
         base.sheet = Sheet::device(base.sheet.records);
         base
     };
     vec![
-        base("points", Float8, false, count, |m| m.record(2, 1)),
-        base("lines of one to three parts", Float8, false, count, |m| m.record(0, 3)),
-        base("polygons with up to three holes", Float8, false, count, |m| m.record(1, 4)),
-        base("labels of one line", Float8, false, count, |m| m.label(1)),
-        base("labels of one to three lines", Float8, false, count, |m| m.label(3)),
-        base("points with six items each", Float8, false, count, |m| m.with_items()),
-        base("all of these, with heights", Float8, true, count, mixed),
-        base("all, 4-byte floating", Float4, false, count, mixed),
-        base("all, 4-byte floating, with heights", Float4, true, count, mixed),
-        base("all, 4-byte integers", Integer4, false, count, mixed),
-        base("all, 4-byte integers, with heights", Integer4, true, count, mixed),
-        base("all, 2-byte integers under 32768", Integer2, false, count, mixed),
-        base("all, 2-byte integers, with heights", Integer2, true, count, mixed),
-        device(base("all, device points with a frame", Integer4, false, count, mixed)),
+        base("points", Double, false, count, |m| m.record(2, 1)),
+        base("lines of one to three parts", Double, false, count, |m| m.record(0, 3)),
+        base("polygons with up to three holes", Double, false, count, |m| m.record(1, 4)),
+        base("labels of one line", Double, false, count, |m| m.label(1)),
+        base("labels of one to three lines", Double, false, count, |m| m.label(3)),
+        base("points with six items each", Double, false, count, |m| m.with_items()),
+        base("all of these, with heights", Double, true, count, mixed),
+        base("all, 4-byte floating", Single, false, count, mixed),
+        base("all, 4-byte floating, with heights", Single, true, count, mixed),
+        base("all, 4-byte integers", Long, false, count, mixed),
+        base("all, 4-byte integers, with heights", Long, true, count, mixed),
+        base("all, 2-byte integers under 32768", Short, false, count, mixed),
+        base("all, 2-byte integers, with heights", Short, true, count, mixed),
+        device(base("all, device points with a frame", Long, false, count, mixed)),
     ]
 }
 
 /// A line of more points than two bytes count.
 pub fn long() -> Base {
-    base("a line of 70000 points, with heights", Element::Float8, true, 1, |m| {
-        Record::new(0, &m.points(70_000)).element(Element::Float8, true)
+    base("a line of 70000 points, with heights", ElementKind::Double, true, 1, |m| {
+        Record::new(0, &m.points(70_000)).element(ElementKind::Double, true)
     })
 }

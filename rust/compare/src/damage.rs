@@ -5,6 +5,7 @@ use crate::child::{ask_gdal, ask_ours, End, Opened};
 use crate::random::Random;
 use crate::scratch::Scratch;
 use crate::SETTING;
+use sxf::fields::{descriptor, header, passport, Field, START};
 use sxf::{Refusal, Table};
 
 const SHEETS: usize = 1000;
@@ -18,17 +19,18 @@ const KINDS: [&str; 6] = [
     "up to 16 bytes taken out",
 ];
 
-fn number(sheet: &[u8], at: usize) -> usize {
-    u32::from_le_bytes([sheet[at], sheet[at + 1], sheet[at + 2], sheet[at + 3]]) as usize
+/// The number in a field, the lowest byte first.
+fn number(sheet: &[u8], field: Field) -> u64 {
+    sheet[field.range()].iter().rev().fold(0, |number, &byte| number << 8 | u64::from(byte))
 }
 
 /// Where the records of an undamaged sheet start.
 fn starts(sheet: &[u8]) -> Vec<usize> {
     let mut starts = Vec::new();
-    let mut at = 452;
+    let mut at = START;
     while at < sheet.len() {
         starts.push(at);
-        at += number(sheet, at + 4);
+        at += number(sheet, header::TOTAL.at(at)) as usize;
     }
     starts
 }
@@ -37,15 +39,16 @@ fn starts(sheet: &[u8]) -> Vec<usize> {
 fn change_count(sheet: &mut [u8], random: &mut Random) {
     let starts = starts(sheet);
     let start = starts[random.below(starts.len())];
-    let (at, width) = [(start + 4, 4), (start + 8, 4), (start + 28, 2), (start + 30, 2), (440, 4)][random.below(5)];
-    let was = if width == 4 { number(sheet, at) } else { number(sheet, at) & 0xFFFF } as u64;
+    let of_record = [header::TOTAL, header::METRIC, header::SUBOBJECTS, header::POINTS].map(|field| field.at(start));
+    let field = *of_record.get(random.below(5)).unwrap_or(&descriptor::COUNT);
+    let was = number(sheet, field);
     let now = match random.below(4) {
         0 => was + 1 + random.below(16) as u64,
         1 => was.saturating_sub(1 + random.below(16) as u64),
         2 => 0xFFFF_FFFF >> random.below(32),
         _ => random.bits(),
     };
-    sheet[at..at + width].copy_from_slice(&now.to_le_bytes()[..width]);
+    sheet[field.range()].copy_from_slice(&now.to_le_bytes()[..field.width]);
 }
 
 fn damage(sheet: &mut Vec<u8>, kind: usize, random: &mut Random) {
@@ -56,8 +59,8 @@ fn damage(sheet: &mut Vec<u8>, kind: usize, random: &mut Random) {
         1 => {
             let starts = starts(sheet);
             let at = match random.below(3) {
-                0 => random.below(452),
-                _ => starts[random.below(starts.len())] + random.below(32),
+                0 => random.below(START),
+                _ => starts[random.below(starts.len())] + random.below(header::SIZE),
             };
             sheet[at] = sheet[at].wrapping_add(1 + random.below(255) as u8);
         }
@@ -69,10 +72,10 @@ fn damage(sheet: &mut Vec<u8>, kind: usize, random: &mut Random) {
 }
 
 pub fn put_sum_right(sheet: &mut [u8]) {
-    if sheet.len() >= 16 {
-        sheet[12..16].fill(0);
+    if sheet.len() >= passport::SUM.after() {
+        sheet[passport::SUM.range()].fill(0);
         let sum: u32 = sheet.iter().map(|&b| u32::from(b)).sum();
-        sheet[12..16].copy_from_slice(&sum.to_le_bytes());
+        sheet[passport::SUM.range()].copy_from_slice(&sum.to_le_bytes());
     }
 }
 
@@ -110,7 +113,7 @@ fn did(seen: &End<Opened>, undamaged: &Opened) -> Did {
 struct Tried {
     kind: usize,
     mended: bool,
-    /// Number, place and year; nothing if the archive died or hung.
+    /// Number, place and year; none if the archive died or hung.
     ours: Option<[u64; 3]>,
     gdal: Did,
 }

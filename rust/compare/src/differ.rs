@@ -2,10 +2,11 @@
 
 use crate::child::{self, ask_gdal, End};
 use crate::scratch::Scratch;
-use crate::sheets::{self, Element, Record, Sheet, MULTIPOLYGON, UNICODE};
+use crate::sheets::{self, Record, Sheet};
 use crate::texts::{decode, decode_wide, encode, encode_wide};
 use crate::values::{value, Value};
 use crate::SETTING;
+use sxf::{ElementKind, Reference};
 
 #[derive(Clone, Copy)]
 enum Look {
@@ -55,7 +56,7 @@ fn item_of(length: usize, kind: u8) -> Sheet {
 }
 
 fn where_the_points_are() -> Vec<Case> {
-    let two = |x: f64, y: f64| Record::new(2, &[at(x, y)]).element(Element::Integer4, false);
+    let two = |x: f64, y: f64| Record::new(2, &[at(x, y)]).element(ElementKind::Long, false);
     let device = |record: Record| Sheet::device(vec![record]);
     let ring = |from: f64, size: f64| [at(from, from), at(from, from + size), at(from + size, from + size), at(from, from)];
     let long = vec![at(1.0, 2.0); 70_000];
@@ -93,7 +94,7 @@ fn where_the_points_are() -> Vec<Case> {
         case(
             "2-byte elements from 32768 up",
             Look::Points,
-            one(Record::new(2, &[at(40_000.0, 65_535.0)]).element(Element::Integer2, false)),
+            one(Record::new(2, &[at(40_000.0, 65_535.0)]).element(ElementKind::Short, false)),
             "000, 2.1.4: 0 to 65535",
         ),
         case(
@@ -125,7 +126,7 @@ fn where_the_points_are() -> Vec<Case> {
         case(
             "a multipolygon: the subobject lies outside",
             Look::Points,
-            one(Record::new(1, &ring(0.0, 9.0)).part(&ring(100.0, 1.0)).more(MULTIPOLYGON)),
+            one(Record::new(1, &ring(0.0, 9.0)).part(&ring(100.0, 1.0)).more(Reference::MULTIPOLYGON)),
             "000, table 3: it may lie outside. GDAL has it as a hole",
         ),
         case(
@@ -146,7 +147,7 @@ fn where_the_points_are() -> Vec<Case> {
 
 fn what_labels_say() -> Vec<Case> {
     let coded = |coding: u8| Sheet { coding, ..one(label(&encode(coding, "Москва"))) };
-    let unicode = label(&closed(&encode_wide("Москва"), 2)).more(UNICODE);
+    let unicode = label(&closed(&encode_wide("Москва"), 2)).more(Reference::UNICODE);
     let lines = Record::new(3, &[at(1.0, 2.0)]).part(&[at(3.0, 4.0)]).texts(&[b"one", b"two"]);
     vec![
         case(
@@ -160,7 +161,7 @@ fn what_labels_say() -> Vec<Case> {
         case(
             "a label in UTF-16 of Latin letters",
             Look::Texts,
-            one(label(&closed(&encode_wide("Gas 40"), 2)).more(UNICODE)),
+            one(label(&closed(&encode_wide("Gas 40"), 2)).more(Reference::UNICODE)),
             "the same",
         ),
         case("a label of two lines", Look::Texts, one(lines), "000, 2.1.4: each line has its own text"),
@@ -247,7 +248,7 @@ fn ours(look: Look, sheet: &Sheet, bytes: &[u8]) -> String {
         record.parts.iter().map(|p| part(&p.points)).collect::<Vec<_>>().join(" / ")
     };
     let text = |record: &Record| {
-        let wide = record.more & UNICODE != 0;
+        let wide = record.more & Reference::UNICODE != 0;
         let line = |bytes: &[u8]| child::quoted(&if wide { decode_wide(bytes) } else { decode(sheet.coding, bytes) });
         record.parts.iter().map(|p| line(&p.text)).collect::<Vec<_>>().join(" / ")
     };

@@ -1,16 +1,8 @@
-//! A sheet as a list of records, and the way to its bytes through the archive's writer and back through its reader.
+//! A sheet as a list of records, and the way to its bytes through the wrapper's writer and back through its reader.
 
 use crate::SETTING;
-use sxf::{Head, Table};
-
-/// How elements are stored.
-#[derive(Clone, Copy, PartialEq, Eq, Debug)]
-pub enum Element {
-    Integer2,
-    Integer4,
-    Float4,
-    Float8,
-}
+use sxf::fields::{passport, Field, Rest};
+use sxf::{ElementKind, Head, Height, NewItem, NewPart, NewRecord, Number, Point, Reference, Unit, Writer};
 
 #[derive(Clone, Debug)]
 pub struct Part {
@@ -31,21 +23,13 @@ pub struct Item {
 pub struct Record {
     pub code: u32,
     pub localisation: u8,
-    pub element: Element,
+    pub element: ElementKind,
     pub heights: bool,
     /// Bits of the reference bytes besides those that the other fields set.
     pub more: u32,
     pub parts: Vec<Part>,
     pub items: Vec<Item>,
 }
-
-const SEMANTICS: u32 = 1 << 9;
-const WIDE: u32 = 1 << 10;
-const HEIGHTS: u32 = 1 << 17;
-const FLOATING: u32 = 1 << 18;
-pub const UNICODE: u32 = 1 << 12;
-pub const TEXT: u32 = 1 << 19;
-pub const MULTIPOLYGON: u32 = 1 << 4;
 
 impl Record {
     /// A record of one part of 8-byte elements without text and items.
@@ -54,7 +38,7 @@ impl Record {
         Record {
             code: 11_200_000,
             localisation,
-            element: Element::Float8,
+            element: ElementKind::Double,
             heights: false,
             more: 0,
             parts: vec![part],
@@ -72,7 +56,7 @@ impl Record {
         self
     }
 
-    pub fn element(mut self, element: Element, heights: bool) -> Record {
+    pub fn element(mut self, element: ElementKind, heights: bool) -> Record {
         (self.element, self.heights) = (element, heights);
         self
     }
@@ -82,7 +66,7 @@ impl Record {
         for (part, text) in self.parts.iter_mut().zip(texts) {
             part.text = text.to_vec();
         }
-        self.more(TEXT)
+        self.more(Reference::TEXT_IN_METRIC)
     }
 
     pub fn item(mut self, code: u16, kind: u8, scale: i8, value: &[u8]) -> Record {
@@ -90,123 +74,66 @@ impl Record {
         self
     }
 
-    fn reference(&self) -> u32 {
-        let wide = matches!(self.element, Element::Integer4 | Element::Float8);
-        let floating = matches!(self.element, Element::Float4 | Element::Float8);
+    fn reference(&self) -> Reference {
+        let large = matches!(self.element, ElementKind::Long | ElementKind::Double);
+        let floating = matches!(self.element, ElementKind::Single | ElementKind::Double);
         let bit = |set: bool, bit: u32| if set { bit } else { 0 };
-        u32::from(self.localisation)
-            | self.more
-            | bit(!self.items.is_empty(), SEMANTICS)
-            | bit(wide, WIDE)
-            | bit(self.heights, HEIGHTS)
-            | bit(floating, FLOATING)
+        Reference(u32::from(self.localisation) | self.more)
+            .with(bit(!self.items.is_empty(), Reference::SEMANTICS))
+            .with(bit(large, Reference::ELEMENT_SIZE))
+            .with(bit(self.heights, Reference::THREE_DIMENSIONS))
+            .with(bit(floating, Reference::FLOATING))
     }
 
-    fn element_of(reference: u32) -> Element {
-        match (reference & FLOATING != 0, reference & WIDE != 0) {
-            (false, false) => Element::Integer2,
-            (false, true) => Element::Integer4,
-            (true, false) => Element::Float4,
-            (true, true) => Element::Float8,
+    /// The record as the writer takes it, in the sheet's unit.
+    fn to_write(&self, number: usize, unit: Unit) -> NewRecord {
+        let reference = self.reference();
+        let planar = |value: f64| unit.coordinate(nearest(reference.planar(), value));
+        let height = |value: f64| reference.height().map(|kind| Height::new(nearest(kind, value)));
+        let point = |&[x, y, h]: &[f64; 3]| Point { x: planar(x), y: planar(y), height: height(h) };
+        let part = |part: &Part| NewPart::new(part.points.iter().map(point).collect()).text(part.text.clone());
+        let item = |item: &Item| NewItem { code: item.code, kind: item.kind, scale: item.scale, bytes: item.value.clone() };
+        let (in_group, group) = ((number + 1) as u16, 7);
+        let items = self.items.iter().map(item).collect();
+        let record = NewRecord { in_group, group, items, ..NewRecord::new(self.code, reference) };
+        self.parts.iter().map(part).fold(record, NewRecord::part)
+    }
+
+    /// The record that was read.
+    fn of(record: &sxf::Record<'_>) -> Record {
+        let reference = record.reference();
+        let value = |number: Number| number.value().expect("a number");
+        let point =
+            |point: Point| [point.x.number(), point.y.number(), point.height.map_or(Number::Whole(0), Height::number)].map(value);
+        let part = |part: NewPart| Part { points: part.points.into_iter().map(point).collect(), text: part.text };
+        let item = |item: NewItem| Item { code: item.code, kind: item.kind, scale: item.scale, value: item.bytes };
+        let NewRecord { code, parts, items, .. } = NewRecord::from(*record);
+        Record {
+            code,
+            localisation: reference.localisation_number() as u8,
+            element: reference.planar(),
+            heights: reference.three_dimensions(),
+            more: reference.0 - reference.localisation_number(),
+            parts: parts.into_iter().map(part).collect(),
+            items: items.into_iter().map(item).collect(),
         }
     }
 }
 
-impl Element {
-    fn bits(self, value: f64) -> u64 {
-        match self {
-            Element::Integer2 => u64::from(value as u16),
-            Element::Integer4 => u64::from(value as i32 as u32),
-            Element::Float4 => u64::from((value as f32).to_bits()),
-            Element::Float8 => value.to_bits(),
-        }
+/// The number of this kind that stands for a value, rounded where the kind has no such number.
+fn nearest(kind: ElementKind, value: f64) -> Number {
+    match kind {
+        ElementKind::Short => Number::Whole((value as u16).into()),
+        ElementKind::Long => Number::Whole((value as i32).into()),
+        ElementKind::Single => Number::Single(value as f32),
+        ElementKind::Double => Number::Double(value),
     }
-
-    fn value(self, bits: u64) -> f64 {
-        match self {
-            Element::Integer2 => f64::from(bits as u16),
-            Element::Integer4 => f64::from(bits as u32 as i32),
-            Element::Float4 => f64::from(f32::from_bits(bits as u32)),
-            Element::Float8 => f64::from_bits(bits),
-        }
-    }
-
-    /// A height beside such elements.
-    fn height(self) -> Element {
-        if self == Element::Float8 {
-            Element::Float8
-        } else {
-            Element::Float4
-        }
-    }
-}
-
-fn table(records: &[Record]) -> Table {
-    let mut table = Table::default();
-    for (number, record) in records.iter().enumerate() {
-        let first = record.parts[0].points.len() as u64;
-        let word = if first >= 65_535 { first } else { 0 };
-        let (parts, items) = (record.parts.len() as u64, record.items.len() as u64);
-        let numbers =
-            [u64::from(record.code), (number as u64 + 1) & 0xFFFF, 7, u64::from(record.reference()), 255, word, parts, items];
-        table.numbers.extend_from_slice(&numbers);
-        for part in &record.parts {
-            table.numbers.extend_from_slice(&[part.points.len() as u64, part.text.len() as u64]);
-            for [x, y, h] in &part.points {
-                table.elements.extend_from_slice(&[record.element.bits(*x), record.element.bits(*y)]);
-                if record.heights {
-                    table.elements.push(record.element.height().bits(*h));
-                }
-            }
-            table.bytes.extend_from_slice(&part.text);
-        }
-        for item in &record.items {
-            let numbers = [u64::from(item.code), u64::from(item.kind), u64::from(item.scale), item.value.len() as u64];
-            table.numbers.extend_from_slice(&numbers);
-            table.bytes.extend_from_slice(&item.value);
-        }
-    }
-    table
-}
-
-/// The records that a table stands for.
-fn records(table: &Table) -> Vec<Record> {
-    let (mut numbers, mut elements) = (table.numbers.iter().copied(), table.elements.iter().copied());
-    let mut bytes = table.bytes.as_slice();
-    let mut number = || numbers.next();
-    let mut element = |kind: Element| kind.value(elements.next().expect("an element"));
-    let mut take = |length: u64| {
-        let (taken, left) = bytes.split_at(length as usize);
-        bytes = left;
-        taken.to_vec()
-    };
-    let mut records = Vec::new();
-    while let Some(code) = number() {
-        let mut next = || number().expect("a number of the row");
-        let [_, _, reference, _, _, parts, items] = std::array::from_fn(|_| next());
-        let reference = reference as u32;
-        let (kind, heights) = (Record::element_of(reference), reference & HEIGHTS != 0);
-        let mut part = || {
-            let (points, length) = (next(), next());
-            let mut point = || [element(kind), element(kind), if heights { element(kind.height()) } else { 0.0 }];
-            Part { points: (0..points).map(|_| point()).collect(), text: take(length) }
-        };
-        let parts = (0..parts).map(|_| part()).collect();
-        let mut item = || {
-            let (code, kind, scale) = (next() as u16, next() as u8, next() as u8);
-            Item { code, kind, scale, value: take(next()) }
-        };
-        let items = (0..items).map(|_| item()).collect();
-        let localisation = (reference & 15) as u8;
-        records.push(Record { code: code as u32, localisation, element: kind, heights, more: reference & !15, parts, items });
-    }
-    records
 }
 
 /// A sheet to be written: what stands in the passport, and the records.
 #[derive(Clone)]
 pub struct Sheet {
-    /// Byte 96, with the bits of real coordinates or without.
+    /// The flags at +96.
     pub flags: u8,
     pub coding: u8,
     pub accuracy: u8,
@@ -219,8 +146,12 @@ pub struct Sheet {
     pub records: Vec<Record>,
 }
 
+/// The flags at +96 with the bits of real coordinates, and without.
 pub const REAL: u8 = 0x1B;
 pub const DEVICE: u8 = 0x03;
+
+/// The frame's corners on the device, eight numbers of four bytes. The library carries them unread.
+const FRAME: Field = Field::new(316, 32);
 
 impl Sheet {
     /// Real coordinates in metres, texts in the Windows coding. The resolution is not 0, since GDAL opens no sheet with 0 there.
@@ -245,19 +176,16 @@ impl Sheet {
         Sheet { flags: DEVICE, corners, frame, ..Sheet::real(records) }
     }
 
-    /// The bytes of the passport from 96 on.
-    fn rest(&self) -> [u8; 304] {
-        let mut rest = [0; 304];
-        let mut put = |place: usize, bytes: &[u8]| rest[place - 96..place - 96 + bytes.len()].copy_from_slice(bytes);
-        put(96, &[self.flags, self.coding, self.accuracy]);
-        for (number, corner) in self.corners.iter().enumerate() {
-            put(104 + 8 * number, &corner.to_le_bytes());
-        }
-        put(236, &[self.unit]);
-        put(312, &self.resolution.to_le_bytes());
-        for (number, corner) in self.frame.iter().enumerate() {
-            put(316 + 4 * number, &corner.to_le_bytes());
-        }
+    fn rest(&self) -> Rest {
+        let mut rest = [0; passport::REST.width];
+        let mut put = |field: Field, bytes: &[u8]| rest[passport::in_rest(field).range()].copy_from_slice(bytes);
+        put(passport::FLAGS, &[self.flags]);
+        put(passport::LABELS, &[self.coding]);
+        put(passport::ACCURACY, &[self.accuracy]);
+        put(passport::CORNERS, self.corners.map(f64::to_le_bytes).as_flattened());
+        put(passport::UNIT, &[self.unit]);
+        put(passport::RESOLUTION, &self.resolution.to_le_bytes());
+        put(FRAME, self.frame.map(i32::to_le_bytes).as_flattened());
         rest
     }
 
@@ -270,13 +198,18 @@ impl Sheet {
             title: b"Sheet",
             rest: &self.rest(),
             designation2: b"N-37-1",
-            flags: &[self.flags, self.coding, 0, 0],
+            carried: &[self.flags, self.coding, 0, 0],
         };
-        sxf::write(&head, table(&self.records).lend(), SETTING).expect("the writer takes the sheet")
+        let mut writer = Writer::new(head).expect("the writer takes the head");
+        for (number, record) in self.records.iter().enumerate() {
+            writer.push(&record.to_write(number, writer.unit())).expect("the record fits its sheet");
+        }
+        writer.write(SETTING).expect("the writer takes the sheet")
     }
 }
 
 /// The records of a sheet, read by the archive's reader.
 pub fn read(sheet: &[u8]) -> Vec<Record> {
-    records(&Table::unfold(sheet, SETTING).expect("the reader takes the sheet"))
+    let sheet = sxf::Sheet::read(sheet, SETTING).expect("the reader takes the sheet");
+    sheet.records().map(|record| Record::of(&record)).collect()
 }

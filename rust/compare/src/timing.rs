@@ -9,6 +9,7 @@ use crate::scratch::Scratch;
 use crate::sheets::{Record, Sheet};
 use crate::SETTING;
 use std::hint::black_box;
+use sxf::fields::{header, START};
 use sxf::table::unfold_into;
 use sxf::{Sizes, Table, LIMIT};
 
@@ -57,7 +58,7 @@ const RATIOS: [(&str, Timed, Timed); 5] = [
 fn sheet(points: usize) -> Vec<u8> {
     let mut random = Random(1);
     let mut point = || [6_000_000.0 + 5000.0 * random.unit(), 7_500_000.0 + 5000.0 * random.unit(), 0.0];
-    let count = (LIMIT - 452) / (32 + 16 * points);
+    let count = (LIMIT - START) / (header::SIZE + 16 * points);
     let records =
         (0..count).map(|_| Record::new(if points == 1 { 2 } else { 0 }, &(0..points).map(|_| point()).collect::<Vec<_>>()));
     Sheet::real(records.collect()).write()
@@ -90,7 +91,7 @@ impl Best {
     }
 }
 
-/// Takes an answer that nobody looks at.
+/// Makes sure that an answer is worked out, though nobody looks at it.
 fn keep<T>(answer: T) {
     black_box(answer);
 }

@@ -6,12 +6,13 @@ use std::hint::black_box;
 use std::time::Instant;
 use sxf::table::unfold_into;
 use sxf::writer::write_into;
-use sxf::{Head, Setting, TableRef};
+use sxf::{Setting, Sheet, TableRef};
 
 const ROUNDS: usize = 60;
 
-/// The best time of each, in milliseconds.
+/// How many records a sheet has, and the best time of each work on it in milliseconds.
 struct Best {
+    records: usize,
     copy: f64,
     check: f64,
     unfold: f64,
@@ -25,27 +26,26 @@ fn milliseconds(work: impl FnOnce()) -> f64 {
 }
 
 fn measure(kind: &sheets::Kind, sheet: &[u8]) -> Best {
-    let at = Setting::Y2017;
-    let sizes = sxf::check(sheet, at).expect("the sheet is accepted");
+    let setting = Setting::Y2017;
+    let sizes = sxf::check(sheet, setting).expect("the sheet is accepted");
     let mut numbers = vec![1u64; sizes.numbers];
     let mut elements = vec![1u64; sizes.elements];
     let mut bytes = vec![1u8; sizes.bytes];
     let mut copy = vec![1u8; sheet.len()];
     let mut written = vec![1u8; sheet.len()];
-    let (rest, flags) = sheets::carried(sheet);
-    let head = Head { rest, flags, ..Head::PLAIN };
-    let mut best = Best { copy: f64::MAX, check: f64::MAX, unfold: f64::MAX, write: f64::MAX };
+    let head = Sheet::read(sheet, setting).and_then(|sheet| sheet.head()).expect("the sheet has a head");
+    let mut best = Best { records: sizes.records, copy: f64::MAX, check: f64::MAX, unfold: f64::MAX, write: f64::MAX };
     for _ in 0..ROUNDS {
         best.copy = best.copy.min(milliseconds(|| black_box(&mut copy).copy_from_slice(black_box(sheet))));
         best.check = best.check.min(milliseconds(|| {
-            let _ = black_box(sxf::check(black_box(sheet), at));
+            let _ = black_box(sxf::check(black_box(sheet), setting));
         }));
         best.unfold = best.unfold.min(milliseconds(|| {
-            let _ = black_box(unfold_into(black_box(sheet), at, &mut numbers, &mut elements, &mut bytes));
+            let _ = black_box(unfold_into(black_box(sheet), setting, &mut numbers, &mut elements, &mut bytes));
         }));
         best.write = best.write.min(milliseconds(|| {
             let table = TableRef { numbers: &numbers, elements: &elements, bytes: &bytes };
-            let _ = black_box(write_into(&head, black_box(table), at, &mut written));
+            let _ = black_box(write_into(&head, black_box(table), setting, &mut written));
         }));
     }
     assert!(sheets::last_agrees(kind, sheet, &elements), "the last element unfolded is not the last one stored");
@@ -64,7 +64,7 @@ fn main() {
                 "| {} | {} | {} | {:.2} | {:.1} | {:.1} | {:.1} | {:.1} |",
                 kind.name,
                 points,
-                sheets::records(&sheet),
+                best.records,
                 best.copy,
                 best.check / best.copy,
                 best.unfold / best.copy,

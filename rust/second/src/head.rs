@@ -24,7 +24,7 @@ const SUM: usize = 12;
 const SCALE: usize = 60;
 const REST: usize = 96;
 const COUNT: usize = 440;
-const FLAGS: usize = 444;
+const CARRIED: usize = 444;
 const DESCRIPTOR_RESERVED: usize = 448;
 
 /// What a sheet says before its records, save for fixed fields, sum and
@@ -44,18 +44,18 @@ pub struct Head {
     /// The descriptor's text at 408; it need not agree with the first.
     pub designation2: Vec<u8>,
     /// The bytes 444 to 447.
-    pub flags: [u8; 4],
+    pub carried: [u8; 4],
 }
 
 impl Head {
-    /// The writer's checks, by place in the sheet.
+    /// The writer's rules, by place in the sheet.
     pub(crate) fn check(&self, setting: Setting) -> Result<(), Refusal> {
         check_text(&self.date, DATE)?;
         check_text(&self.designation, DESIGNATION)?;
         check_text(&self.title, TITLE)?;
         check_rest(&self.rest, setting)?;
         check_text(&self.designation2, DESIGNATION_2)?;
-        check_flags(&self.flags, setting)
+        check_carried(&self.carried, setting)
     }
 
     /// Fills the first 452 bytes of a sheet, all zero so far, whose records
@@ -73,7 +73,7 @@ impl Head {
         put_u32(sheet, 404, DESCRIPTOR_LENGTH);
         put(sheet, DESIGNATION_2.0, &self.designation2);
         put_u32(sheet, COUNT, records);
-        put(sheet, FLAGS, &self.flags);
+        put(sheet, CARRIED, &self.carried);
         put_u32(sheet, SUM, sum(sheet));
     }
 }
@@ -106,13 +106,13 @@ pub(crate) fn read_head(sheet: &[u8], setting: Setting) -> Result<Opening, Refus
     fixed(sheet, 400, DESCRIPTOR_IDENTIFIER, Refusal::NOT_SXF)?;
     fixed(sheet, 404, DESCRIPTOR_LENGTH, Refusal::EDITION)?;
     let designation2 = read_text(sheet, DESIGNATION_2)?;
-    let flags = bytes_at::<4>(sheet, FLAGS);
-    check_flags(&flags, setting)?;
+    let carried = bytes_at::<4>(sheet, CARRIED);
+    check_carried(&carried, setting)?;
     fixed(sheet, DESCRIPTOR_RESERVED, 0, Refusal::RESERVED)?;
     Ok(Opening {
         sum,
         records: u32_at(sheet, COUNT),
-        head: Head { date, designation, scale: u32_at(sheet, SCALE), title, rest, designation2, flags },
+        head: Head { date, designation, scale: u32_at(sheet, SCALE), title, rest, designation2, carried },
     })
 }
 
@@ -135,8 +135,8 @@ fn check_rest(rest: &[u8; 304], setting: Setting) -> Result<(), Refusal> {
 }
 
 /// The four bytes at 444.
-fn check_flags(flags: &[u8; 4], setting: Setting) -> Result<(), Refusal> {
-    let [state, coding, secrecy, automatic] = *flags;
+fn check_carried(carried: &[u8; 4], setting: Setting) -> Result<(), Refusal> {
+    let [state, coding, secrecy, automatic] = *carried;
     require(state_allowed(state), Refusal::RESERVED, 444)?;
     require(coding <= 2, Refusal::RESERVED, 445)?;
     require(secrecy <= 5, Refusal::RESERVED, 446)?;

@@ -85,7 +85,7 @@ fn setting(year: &str) -> Result<Setting, String> {
 pub fn parse() -> Result<Command, ExitCode> {
     Arguments::try_parse().map(|arguments| arguments.command).map_err(|error| {
         if matches!(error.kind(), ErrorKind::DisplayHelp | ErrorKind::DisplayVersion) {
-            // Nothing can be told to somebody who does not read.
+            // Help that cannot be printed has nobody to read it.
             let _ = error.print();
             return ExitCode::SUCCESS;
         }

@@ -1,4 +1,4 @@
-//! What goes wrong, and how it is told: one line on standard error, and the exit status.
+//! What goes wrong, and how the user learns of it: one line on standard error, and the exit status.
 use std::fmt::Display;
 use std::io::{self, Write};
 use std::path::Path;
@@ -10,7 +10,7 @@ pub enum Failure {
     Refused(String),
     /// A file cannot be read or written, or is not what it should be.
     Trouble(String),
-    /// Whoever read our output has gone.
+    /// Nobody reads standard output any more, as when `head` has its lines. That is no failure of ours.
     Gone,
 }
 
@@ -32,13 +32,13 @@ impl Failure {
     }
 }
 
-/// One line on standard error. Where even that cannot be written, the exit status is left to tell.
+/// Prints one line on standard error. Where even that fails, the exit status alone says what happened.
 pub fn told(line: &str, status: u8) -> ExitCode {
     let _ = writeln!(io::stderr(), "sxf: {line}");
     ExitCode::from(status)
 }
 
-/// Only standard output is written with `?`.
+/// An error on standard output: errors of other files are given the file's name where they arise.
 impl From<io::Error> for Failure {
     fn from(error: io::Error) -> Failure {
         match error.kind() {

@@ -23,7 +23,8 @@ pub struct HeadLine<'a> {
     /// The descriptor's designation.
     pub designation2: Hex<'a>,
     /// The four bytes at 444.
-    pub flags: Hex<'a>,
+    #[serde(rename = "flags")]
+    pub carried: Hex<'a>,
     /// How many lines follow, so that a table that was cut is not written. It may be left out.
     #[serde(default, skip_serializing_if = "Option::is_none")]
     pub records: Option<u64>,
@@ -33,8 +34,10 @@ pub struct HeadLine<'a> {
 #[serde(deny_unknown_fields)]
 pub struct RecordLine<'a> {
     pub code: u64,
-    pub number_in_group: u64,
-    pub group_number: u64,
+    #[serde(rename = "number_in_group")]
+    pub in_group: u64,
+    #[serde(rename = "group_number")]
+    pub group: u64,
     /// Bytes 20 to 22 as one number, byte 20 lowest.
     pub reference: u64,
     pub generalisation: u64,

@@ -18,10 +18,10 @@ fn line(record: &Record<'_>, out: &mut dyn Write) -> Result<(), Failure> {
         "{} {} {} {} {} {} {} {} {}",
         record.number(),
         record.place(),
-        record.total_length(),
+        record.total(),
         record.code(),
-        record.number_in_group(),
-        record.group_number(),
+        record.in_group(),
+        record.group(),
         record.reference().localisation_number(),
         record.first_points(),
         record.items().count()

@@ -1,7 +1,7 @@
 //! The command `sxf`: sheets of SXF 4.0 are checked, listed, shown, unfolded to JSON lines and written from them.
 //!
-//! What is accepted and refused is the proved library's answer; this is the reading of files and the telling. Exit status: 0 accepted or done,
-//! 1 refused, 2 usage, input or output.
+//! What is accepted and refused is the proved library's answer; this program reads the files and prints what is answered. Exit status:
+//! 0 accepted or done, 1 refused, 2 usage, input or output.
 #![deny(unsafe_code)]
 
 mod arguments;
@@ -39,7 +39,7 @@ fn main() -> ExitCode {
     };
     let mut out = BufWriter::new(io::stdout().lock());
     let done = run(&command, &mut out);
-    // What was told before a failure is told all the same, and first.
+    // What was printed before a failure is printed all the same, and first.
     let flushed = out.flush().map_err(Failure::from);
     match done.and(flushed) {
         Ok(()) => ExitCode::SUCCESS,

@@ -20,7 +20,7 @@ fn written(file: &Path, bytes: &[u8]) -> io::Result<()> {
     let (temporary, beside) = create(folder, &file)?;
     let renamed = fill(beside, bytes, permissions).and_then(|()| fs::rename(&temporary, &file));
     if renamed.is_err() {
-        // The first error is the one to tell.
+        // An error here would hide the one that is told.
         let _ = fs::remove_file(&temporary);
     }
     renamed?;
@@ -51,7 +51,7 @@ fn keep_name(folder: &Path) {
     let _ = File::open(folder).and_then(|folder| folder.sync_all());
 }
 
-/// A file of a name that nobody has yet.
+/// Creates a file beside the one wanted, under a name that is not taken.
 fn create(folder: &Path, file: &Path) -> io::Result<(PathBuf, File)> {
     let name = file.file_name().ok_or_else(|| io::Error::new(io::ErrorKind::InvalidInput, "not the name of a file"))?;
     for attempt in 0..100 {

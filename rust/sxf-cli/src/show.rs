@@ -59,9 +59,9 @@ fn yes(flag: bool) -> &'static str {
 }
 
 fn record(record: &Record<'_>, out: &mut dyn Write) -> Result<(), Failure> {
-    let (number, place, length) = (record.number(), record.place(), record.total_length());
+    let (number, place, length) = (record.number(), record.place(), record.total());
     writeln!(out, "record {number} at {place} ({place:#x}), {length} bytes")?;
-    writeln!(out, "  code {}, group {}, number in group {}", record.code(), record.group_number(), record.number_in_group())?;
+    writeln!(out, "  code {}, group {}, number in group {}", record.code(), record.group(), record.in_group())?;
     writeln!(out, "  {}", reference(record))?;
     writeln!(out, "  visibility {}", record.visibility())?;
     if record.word() != 0 {
@@ -126,7 +126,7 @@ fn text(text: &Text<'_>) -> String {
     format!("{told} ({})", text.coding)
 }
 
-/// Bytes in quotation marks. Those that are no printable ASCII are told as \xNN: which characters they stand for hangs on the coding.
+/// Bytes in quotation marks. Those that are not printable ASCII are shown as \xNN: which characters they stand for depends on the coding.
 fn quoted(bytes: &[u8]) -> String {
     format!("\"{}\"", bytes.escape_ascii())
 }

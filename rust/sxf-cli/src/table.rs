@@ -31,7 +31,7 @@ fn head_line<'a>(head: &Head<'a>, records: usize) -> HeadLine<'a> {
         title: Hex::of(head.title),
         rest: Hex::of(head.rest),
         designation2: Hex::of(head.designation2),
-        flags: Hex::of(head.flags),
+        carried: Hex::of(head.carried),
         records: Some(records as u64),
     }
 }
@@ -39,8 +39,8 @@ fn head_line<'a>(head: &Head<'a>, records: usize) -> HeadLine<'a> {
 fn record_line<'a>(record: &Record<'a>) -> RecordLine<'a> {
     RecordLine {
         code: record.code().into(),
-        number_in_group: record.number_in_group().into(),
-        group_number: record.group_number().into(),
+        in_group: record.in_group().into(),
+        group: record.group().into(),
         reference: record.reference().0.into(),
         generalisation: record.generalisation().into(),
         word: record.word().into(),

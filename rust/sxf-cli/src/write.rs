@@ -1,10 +1,12 @@
 //! `sxf write`: a sheet from JSON lines.
 use crate::failure::Failure;
-use crate::json::{HeadLine, PartLine, RecordLine, EDITION};
+use crate::json::{HeadLine, ItemLine, PartLine, RecordLine, EDITION};
 use crate::{input, output};
 use serde::de::DeserializeOwned;
 use std::io::{BufRead, BufReader, Read};
 use std::path::Path;
+use sxf::fields::{descriptor, passport};
+use sxf::row;
 use sxf::writer::check_head;
 use sxf::{Head, Reference, Refusal, Setting, Table, LIMIT};
 
@@ -18,7 +20,7 @@ pub fn run(json: &Path, file: &Path, setting: Setting) -> Result<(), Failure> {
     output::whole(file, &sheet)
 }
 
-/// A refusal, with the line that it stands in.
+/// The refusal with the line of the JSON that it is about.
 fn told(json: &Path, head: &Head<'_>, lines: &Lines, setting: Setting, refusal: Refusal) -> Failure {
     let whole = [Refusal::TOO_LONG, Refusal::ROOM, Refusal::ASK].contains(&refusal.number);
     let place = if whole {
@@ -57,9 +59,10 @@ impl Lines {
     }
 }
 
-/// The pools have no bounds between parts, so that elements over or missing would be another part's.
+/// Whether a part has as many elements as its points call for. The pool has no bounds between parts, so that an element too many would go to
+/// the next part, and one too few would be taken from it.
 fn agrees(reference: u64, part: &PartLine<'_>) -> Result<(), String> {
-    // A reference number that is none is refused before any point is looked at.
+    // A number too large for the reference bytes is refused by the library before it looks at any point.
     let Some(reference) = u32::try_from(reference).ok().map(Reference) else { return Ok(()) };
     let each = reference.elements() as u64;
     match part.points.checked_mul(each) {
@@ -68,17 +71,21 @@ fn agrees(reference: u64, part: &PartLine<'_>) -> Result<(), String> {
     }
 }
 
+/// Adds a record's row and what it has in the pools. The numbers are the line's, also where they are too large for their fields: the library
+/// refuses such a table, and says where.
 fn push(table: &mut Table, record: &RecordLine<'_>) {
-    table.numbers.extend([record.code, record.number_in_group, record.group_number, record.reference]);
-    table.numbers.extend([record.generalisation, record.word, record.parts.len() as u64, record.items.len() as u64]);
+    let &RecordLine { code, in_group, group, reference, generalisation, word, .. } = record;
+    let (parts, items) = (record.parts.len() as u64, record.items.len() as u64);
+    table.numbers.extend(row::Record { code, in_group, group, reference, generalisation, word, parts, items }.numbers());
     for part in &record.parts {
-        table.numbers.extend([part.points, part.text.0.len() as u64]);
+        let text = &part.text.0;
+        table.numbers.extend(row::Part { points: part.points, text_length: text.len() as u64 }.numbers());
         table.elements.extend_from_slice(&part.elements);
-        table.bytes.extend_from_slice(&part.text.0);
+        table.bytes.extend_from_slice(text);
     }
-    for item in &record.items {
-        table.numbers.extend([item.code, item.kind, item.scale, item.value.0.len() as u64]);
-        table.bytes.extend_from_slice(&item.value.0);
+    for &ItemLine { code, kind, scale, ref value } in &record.items {
+        table.numbers.extend(row::Item { code, kind, scale, length: value.0.len() as u64 }.numbers());
+        table.bytes.extend_from_slice(&value.0);
     }
 }
 
@@ -93,9 +100,9 @@ fn head_of<'a>(line: &'a HeadLine<'_>) -> Result<Head<'a>, String> {
         designation: &line.designation.0,
         scale: line.scale,
         title: &line.title.0,
-        rest: line.rest.0.as_ref().try_into().map_err(|_| wrong("rest", &line.rest.0, 304))?,
+        rest: line.rest.0.as_ref().try_into().map_err(|_| wrong("rest", &line.rest.0, passport::REST.width))?,
         designation2: &line.designation2.0,
-        flags: line.flags.0.as_ref().try_into().map_err(|_| wrong("flags", &line.flags.0, 4))?,
+        carried: line.carried.0.as_ref().try_into().map_err(|_| wrong("flags", &line.carried.0, descriptor::CARRIED.width))?,
     })
 }
 
@@ -127,6 +134,7 @@ fn tables(json: &Path) -> Result<(HeadLine<'static>, Lines), Failure> {
     Ok((head, lines))
 }
 
+/// Whether there are as many records as the head says, if it says so.
 fn complete(head: &HeadLine<'_>, lines: &Lines) -> Result<(), String> {
     let found = lines.numbers.len();
     match head.records {
@@ -135,7 +143,7 @@ fn complete(head: &HeadLine<'_>, lines: &Lines) -> Result<(), String> {
     }
 }
 
-/// The parser counts lines within its own input, which is one line.
+/// Parses one line. The line number that the parser gives is left out: it counts within what it is given, which is this line alone.
 fn parsed<T: DeserializeOwned>(line: &[u8]) -> Result<T, String> {
     serde_json::from_slice(line).map_err(|error| {
         let told = error.to_string();

@@ -1,11 +1,12 @@
 //! What stands before the records: texts, scale and carried bytes, as the writer takes them, and the plane corners.
 use crate::coordinates::Number;
 use crate::item::Coding;
-use crate::raw;
+use sxf_sys::fields::{descriptor, passport, Carried, Field, Rest};
 
-/// The head of a sheet: passport and descriptor without what follows from the rest (identifiers, lengths, edition, sum, count).
+/// The head of a sheet: passport and descriptor without what is always the same or is worked out (identifiers, lengths, edition, sum, count).
 ///
-/// The texts are without zeros. The 304 bytes from +96 and the four at 444 are carried as stored.
+/// It is what a sheet that was read answers and what a sheet to be written takes. The texts are without zeros. The 304 bytes from +96 and the
+/// four at 444 are carried as stored.
 #[derive(Clone, Copy, Debug, PartialEq, Eq)]
 pub struct Head<'a> {
     /// The date at 16, of at most 11 bytes.
@@ -17,104 +18,111 @@ pub struct Head<'a> {
     /// The title at 64, of at most 31 bytes.
     pub title: &'a [u8],
     /// The 304 bytes of the passport from +96 on.
-    pub rest: &'a [u8; 304],
+    pub rest: &'a Rest,
     /// The descriptor's designation at 408, of at most 31 bytes. It need not be the passport's.
     pub designation2: &'a [u8],
     /// The four bytes at 444.
-    pub flags: &'a [u8; 4],
+    pub carried: &'a Carried,
 }
 
-const fn plain_rest() -> [u8; 304] {
-    let mut rest = [0; 304];
-    rest[0] = 3;
+/// The class code of the sheet's frame. The library carries it unread, so it has no name there.
+const FRAME_CODE: Field = Field::new(348, 4);
+
+const fn plain_rest() -> Rest {
+    let mut rest = [0; passport::REST.width];
+    rest[passport::in_rest(passport::FLAGS).place] = 3;
     rest
 }
 
-static PLAIN_REST: [u8; 304] = plain_rest();
+static PLAIN_REST: Rest = plain_rest();
 
-/// The field of N bytes at a place from 96 to 399 of the passport. The places asked for here are constants, which a test goes over.
-fn field<const N: usize>(rest: &[u8; 304], place: usize) -> [u8; N] {
-    let bytes = place.checked_sub(96).and_then(|start| rest.get(start..)?.first_chunk());
+/// The N bytes of a field of the rest. The fields asked for here are constants, which a test goes over.
+fn field<const N: usize>(rest: &Rest, field: Field) -> [u8; N] {
+    let bytes = rest.get(passport::in_rest(field).range()).and_then(|bytes| bytes.first_chunk());
     bytes.copied().unwrap_or([0; N])
 }
 
 impl<'a> Head<'a> {
     /// No text, scale 0, and of the carried bytes only what a sheet must have.
     pub const PLAIN: Head<'static> =
-        Head { date: b"", designation: b"", scale: 0, title: b"", rest: &PLAIN_REST, designation2: b"", flags: &[3, 0, 0, 0] };
+        Head { date: b"", designation: b"", scale: 0, title: b"", rest: &PLAIN_REST, designation2: b"", carried: &[3, 0, 0, 0] };
 
     /// The bytes of an accepted sheet that a head is made of; none where the sheet is too short for one.
-    pub(crate) fn of(sheet: &'a [u8], lengths: &raw::Head) -> Option<Head<'a>> {
-        let text = |place: usize, length: u64| sheet.get(place..)?.get(..usize::try_from(length).ok()?);
+    pub(crate) fn of(sheet: &'a [u8], lengths: &sxf_sys::Head) -> Option<Head<'a>> {
+        let text = |field: Field, length: u64| sheet.get(field.place..)?.get(..usize::try_from(length).ok()?);
         Some(Head {
-            date: text(16, lengths.date)?,
-            designation: text(28, lengths.designation)?,
+            date: text(passport::DATE, lengths.date)?,
+            designation: text(passport::DESIGNATION, lengths.designation)?,
             scale: u32::try_from(lengths.scale).ok()?,
-            title: text(64, lengths.title)?,
-            rest: sheet.get(96..)?.first_chunk()?,
-            designation2: text(408, lengths.designation2)?,
-            flags: sheet.get(444..)?.first_chunk()?,
+            title: text(passport::TITLE, lengths.title)?,
+            rest: sheet.get(passport::REST.place..)?.first_chunk()?,
+            designation2: text(descriptor::DESIGNATION, lengths.designation2)?,
+            carried: sheet.get(descriptor::CARRIED.place..)?.first_chunk()?,
         })
     }
 
-    /// The information flags at +96, whose bit 7 picks the generalisation table.
-    pub fn information(&self) -> u8 {
-        u8::from_le_bytes(field(self.rest, 96))
+    /// The flags at +96, whose bit 7 picks the generalisation table.
+    pub fn flags(&self) -> u8 {
+        u8::from_le_bytes(field(self.rest, passport::FLAGS))
     }
 
     /// The coding of labels, at +97.
     pub fn label_coding(&self) -> Coding {
-        Coding::of_labels(u8::from_le_bytes(field(self.rest, 97)))
+        Coding::of_labels(u8::from_le_bytes(field(self.rest, passport::LABELS)))
     }
 
     /// The accuracy at +98, 0 to 3.
     pub fn accuracy(&self) -> u8 {
-        u8::from_le_bytes(field(self.rest, 98))
+        u8::from_le_bytes(field(self.rest, passport::ACCURACY))
     }
 
     /// Special sorting, bit 0 at +99.
     pub fn special_sorting(&self) -> bool {
-        u8::from_le_bytes(field(self.rest, 99)) & 1 != 0
+        u8::from_le_bytes(field(self.rest, passport::SORTING)) & 1 != 0
     }
 
     /// The EPSG code at +100, or 0.
     pub fn epsg(&self) -> u32 {
-        u32::from_le_bytes(field(self.rest, 100))
+        u32::from_le_bytes(field(self.rest, passport::EPSG))
     }
 
     /// The resolution at +312, in points to a metre. A negative one makes the sheet real.
     pub fn resolution(&self) -> i32 {
-        i32::from_le_bytes(field(self.rest, 312))
+        i32::from_le_bytes(field(self.rest, passport::RESOLUTION))
     }
 
     /// The class code of the sheet's frame, at +348.
     pub fn frame_code(&self) -> u32 {
-        u32::from_le_bytes(field(self.rest, 348))
+        u32::from_le_bytes(field(self.rest, FRAME_CODE))
     }
 
     /// The north offset at +384.
     pub fn north_offset(&self) -> Number {
-        Number::of_double(u64::from_le_bytes(field(self.rest, 384)))
+        Number::of_double(u64::from_le_bytes(field(self.rest, passport::NORTH)))
     }
 
     /// The east offset at +392.
     pub fn east_offset(&self) -> Number {
-        Number::of_double(u64::from_le_bytes(field(self.rest, 392)))
+        Number::of_double(u64::from_le_bytes(field(self.rest, passport::EAST)))
     }
 
     /// The secrecy at 446, 0 to 5.
     pub fn secrecy(&self) -> u8 {
-        self.flags[2]
+        self.carried[descriptor::in_carried(descriptor::SECRECY).place]
     }
 
     /// Automatic GUID, bit 0 at 447.
     pub fn automatic_guid(&self) -> bool {
-        self.flags[3] & 1 != 0
+        self.keeping() & 1 != 0
     }
 
     /// Edit date, bit 1 at 447.
     pub fn edit_date(&self) -> bool {
-        self.flags[3] & 2 != 0
+        self.keeping() & 2 != 0
+    }
+
+    fn keeping(&self) -> u8 {
+        self.carried[descriptor::in_carried(descriptor::KEEPING).place]
     }
 }
 
@@ -142,7 +150,7 @@ pub struct Corners {
 }
 
 impl Corners {
-    pub(crate) fn of(answer: &raw::Corners) -> Corners {
+    pub(crate) fn of(answer: &sxf_sys::Corners) -> Corners {
         Corners {
             nan_at: (answer.nan_at != 0).then_some(answer.nan_at as usize),
             sw_x: Number::of_double(answer.sw_x),
@@ -163,9 +171,9 @@ mod tests {
 
     #[test]
     fn fields_are_read_at_their_places() {
-        let rest: [u8; 304] = std::array::from_fn(|i| i as u8);
-        let head = Head { rest: &rest, flags: &[3, 1, 5, 2], ..Head::PLAIN };
-        assert_eq!((head.information(), head.label_coding(), head.accuracy()), (0, Coding::Windows, 2));
+        let rest: Rest = std::array::from_fn(|i| i as u8);
+        let head = Head { rest: &rest, carried: &[3, 1, 5, 2], ..Head::PLAIN };
+        assert_eq!((head.flags(), head.label_coding(), head.accuracy()), (0, Coding::Windows, 2));
         assert_eq!((head.epsg(), head.special_sorting()), (0x0706_0504, true));
         assert_eq!(head.resolution(), i32::from_le_bytes([216, 217, 218, 219]));
         assert_eq!(head.frame_code(), u32::from_le_bytes([252, 253, 254, 255]));

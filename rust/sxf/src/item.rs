@@ -1,8 +1,9 @@
 //! Semantic items of a record, and texts with their codings.
 use crate::coordinates::Number;
-use crate::raw;
 use crate::table::Row;
 use std::fmt;
+use sxf_sys::row::{self, ITEM_WIDTH};
+use sxf_sys::{lent, refusals};
 
 /// How a text's bytes are coded.
 #[derive(Clone, Copy, Debug, PartialEq, Eq, Hash)]
@@ -70,7 +71,7 @@ pub enum Value<'a> {
     },
     /// Type 8: a double, or the bits of a NaN.
     Double(Number),
-    /// What no accepted sheet has: another type, or a value that is not its type's.
+    /// Another type, or a value that is not as long as its type says; no accepted sheet has such an item.
     Unread,
 }
 
@@ -112,15 +113,15 @@ impl<'a> Item<'a> {
         Some(Value::Text(Text { coding, bytes }))
     }
 
-    /// The library knows which types have one, and what it is.
+    /// The number of a value of type 1, 2 or 4. Which types have one is the library's answer, and so is what it is.
     fn decimal(&self) -> Option<Value<'a>> {
         if self.bytes.len() != usize::from(self.kind) {
             return None;
         }
         let mut bits = [0; 4];
         bits.get_mut(..self.bytes.len())?.copy_from_slice(self.bytes);
-        let answer = raw::value_of(self.kind, self.scale, u32::from_le_bytes(bits));
-        let known = answer.number == 0 && answer.is_number != 0;
+        let answer = lent::value_of(self.kind, self.scale, u32::from_le_bytes(bits));
+        let known = answer.number == refusals::OK && answer.is_number != 0;
         known.then_some(Value::Decimal { whole: answer.whole, power: answer.power })
     }
 }
@@ -128,7 +129,7 @@ impl<'a> Item<'a> {
 /// The items of a record.
 #[derive(Clone, Copy, Debug)]
 pub struct Items<'a> {
-    numbers: &'a [[u64; 4]],
+    numbers: &'a [[u64; ITEM_WIDTH]],
     values: &'a [u8],
 }
 
@@ -140,7 +141,8 @@ impl<'a> Items<'a> {
 
 impl<'a> Items<'a> {
     fn taken(&self) -> Option<(Item<'a>, Items<'a>)> {
-        let (&[code, kind, scale, length], numbers) = self.numbers.split_first()?;
+        let (item, numbers) = self.numbers.split_first()?;
+        let row::Item { code, kind, scale, length } = row::Item::of(item);
         let (bytes, values) = self.values.split_at_checked(usize::try_from(length).ok()?)?;
         let item =
             Item { code: u16::try_from(code).ok()?, kind: u8::try_from(kind).ok()?, scale: u8::try_from(scale).ok()?, bytes };

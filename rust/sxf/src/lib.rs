@@ -24,6 +24,7 @@
 //! | [`reference`](mod@reference) | the three reference bytes of a record |
 //! | [`coordinates`] | units, numbers and coordinates, each unit a type of its own |
 //! | [`table`] | the record table as the library fills and takes it |
+//! | [`row`], [`fields`] | the names of the table's columns, and of the places in a sheet |
 //! | [`writer`] | a sheet is written: [`write()`], [`Writer`] |
 //! | [`years`] | which features a sheet has, and from which year |
 //! | [`refusal`], [`setting`] | refusals, and the nine settings |
@@ -33,21 +34,18 @@
 //! Proved are the library's answers: what is accepted and refused, with number, place and year; sum, count and sizes; the record table; a
 //! record asked for by number; the lengths of the head's texts; unit, corners, visibility, and the numbers of items; the bytes written. This
 //! crate hands them on. Its own, which tests hold and no proof, are the walk over the table that was unfolded, a record's place in that walk,
-//! what an element's bits stand for, the fields of [`Head`] behind its carried bytes, the room for writing, and the names of features.
+//! what an element's bits stand for, the fields that [`Head`] reads out of its rest and its carried bytes, the room for writing, and the names
+//! of features.
 //!
 //! Nothing here panics on what a sheet or a table holds. That an accepted sheet's table is well formed is the library's promise; what goes
 //! against it would end an iteration early, and for good.
 #![deny(missing_docs)]
-#![deny(unsafe_code)]
-#![deny(unsafe_op_in_unsafe_fn)]
+#![forbid(unsafe_code)]
 
 pub mod coordinates;
 pub mod head;
 pub mod item;
 pub mod part;
-// The one module that may: it calls the archive.
-#[allow(unsafe_code)]
-mod raw;
 pub mod record;
 pub mod reference;
 pub mod refusal;
@@ -67,9 +65,7 @@ pub use reference::{Localisation, Reference};
 pub use refusal::Refusal;
 pub use setting::Setting;
 pub use sheet::{check, record_at, Sheet, Sizes};
+pub use sxf_sys::{fields, row, LIMIT};
 pub use table::{Row, Table, TableRef};
 pub use visibility::Visibility;
 pub use writer::{write, Misfit, NewItem, NewPart, NewRecord, Writer};
-
-/// The most bytes a sheet may have.
-pub const LIMIT: usize = 16_777_216;

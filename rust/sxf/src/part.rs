@@ -3,6 +3,7 @@ use crate::coordinates::{Coordinate, ElementKind, Height, Unit};
 use crate::item::{Coding, Text};
 use crate::table::Row;
 use crate::Reference;
+use sxf_sys::row::{self, PART_WIDTH};
 
 /// A part: its points, and its text where the record has text in its metric.
 #[derive(Clone, Copy, Debug)]
@@ -72,7 +73,7 @@ impl Iterator for Points<'_> {
     fn next(&mut self) -> Option<Point> {
         let (point, rest) = self.elements.split_at_checked(self.elements_of_a_point())?;
         let point = self.point(point);
-        // What is no point ends the iteration for good.
+        // Elements that are no point end the iteration for good.
         self.elements = if point.is_some() { rest } else { &[] };
         point
     }
@@ -91,7 +92,7 @@ pub struct Parts<'a> {
     reference: Reference,
     unit: Unit,
     coding: Coding,
-    numbers: &'a [[u64; 2]],
+    numbers: &'a [[u64; PART_WIDTH]],
     elements: &'a [u64],
     texts: &'a [u8],
 }
@@ -108,12 +109,13 @@ impl<'a> Iterator for Parts<'a> {
     type Item = Part<'a>;
 
     fn next(&mut self) -> Option<Part<'a>> {
-        let ([points, text], numbers) = self.numbers.split_first()?;
-        let elements = usize::try_from(*points).ok()?.checked_mul(self.reference.elements())?;
+        let (part, numbers) = self.numbers.split_first()?;
+        let row::Part { points, text_length } = row::Part::of(part);
+        let elements = usize::try_from(points).ok()?.checked_mul(self.reference.elements())?;
         let (elements, elements_rest) = self.elements.split_at_checked(elements)?;
-        let (text, texts) = self.texts.split_at_checked(usize::try_from(*text).ok()?)?;
+        let (text, texts) = self.texts.split_at_checked(usize::try_from(text_length).ok()?)?;
         (self.numbers, self.elements, self.texts) = (numbers, elements_rest, texts);
-        let text = self.reference.text().then_some(Text { coding: self.coding, bytes: text });
+        let text = self.reference.text_in_metric().then_some(Text { coding: self.coding, bytes: text });
         Some(Part { reference: self.reference, unit: self.unit, elements, text })
     }
 }

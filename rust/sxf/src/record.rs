@@ -4,7 +4,9 @@ use crate::item::{Coding, Items};
 use crate::part::Parts;
 use crate::refusal::low32;
 use crate::table::{Row, Rows};
-use crate::{raw, Reference, Visibility};
+use crate::{Reference, Visibility};
+use sxf_sys::fields::{header, START};
+use sxf_sys::row;
 
 /// One record, as the library answers it when asked by number.
 #[derive(Clone, Copy, Debug, PartialEq, Eq)]
@@ -12,13 +14,13 @@ pub struct RecordAt {
     /// Where it starts in the sheet.
     pub place: usize,
     /// Its total length.
-    pub total_length: usize,
+    pub total: usize,
     /// Its class code.
     pub code: u32,
     /// Its number in its group.
-    pub number_in_group: u16,
+    pub in_group: u16,
     /// Its group's number.
-    pub group_number: u16,
+    pub group: u16,
     /// Its reference bytes.
     pub reference: Reference,
     /// Its generalisation byte.
@@ -33,7 +35,7 @@ pub struct RecordAt {
     pub points: u32,
 }
 
-/// The numbers of 16 and 8 bits come as 64; one that does not fit would go against the library's contract.
+/// Numbers of 16 and 8 bits are answered as 64; one that does not fit would go against the library's contract.
 fn low16(number: u64) -> u16 {
     u16::try_from(number).unwrap_or(u16::MAX)
 }
@@ -43,13 +45,13 @@ fn low8(number: u64) -> u8 {
 }
 
 impl RecordAt {
-    pub(crate) fn of(answer: &raw::Record) -> RecordAt {
+    pub(crate) fn of(answer: &sxf_sys::Record) -> RecordAt {
         RecordAt {
             place: answer.at as usize,
-            total_length: answer.total as usize,
+            total: answer.total as usize,
             code: low32(answer.code),
-            number_in_group: low16(answer.in_group),
-            group_number: low16(answer.group),
+            in_group: low16(answer.in_group),
+            group: low16(answer.group),
             reference: Reference(low32(answer.reference)),
             generalisation: low8(answer.generalisation),
             word: low32(answer.word),
@@ -64,7 +66,7 @@ impl RecordAt {
 #[derive(Clone, Copy, Debug)]
 pub(crate) struct Common {
     pub unit: Unit,
-    pub information: u8,
+    pub flags: u8,
     pub labels: Coding,
 }
 
@@ -73,7 +75,7 @@ pub(crate) struct Common {
 pub struct Record<'a> {
     number: usize,
     place: usize,
-    total_length: usize,
+    total: usize,
     common: Common,
     row: Row<'a>,
 }
@@ -90,8 +92,8 @@ impl<'a> Record<'a> {
     }
 
     /// Its total length.
-    pub fn total_length(&self) -> usize {
-        self.total_length
+    pub fn total(&self) -> usize {
+        self.total
     }
 
     /// Its row of the record table.
@@ -101,17 +103,17 @@ impl<'a> Record<'a> {
 
     /// Its class code.
     pub fn code(&self) -> u32 {
-        low32(self.row.numbers[0])
+        low32(self.row.numbers[row::CODE])
     }
 
     /// Its number in its group.
-    pub fn number_in_group(&self) -> u16 {
-        low16(self.row.numbers[1])
+    pub fn in_group(&self) -> u16 {
+        low16(self.row.numbers[row::IN_GROUP])
     }
 
     /// Its group's number.
-    pub fn group_number(&self) -> u16 {
-        low16(self.row.numbers[2])
+    pub fn group(&self) -> u16 {
+        low16(self.row.numbers[row::GROUP])
     }
 
     /// Its reference bytes.
@@ -121,22 +123,22 @@ impl<'a> Record<'a> {
 
     /// Its generalisation byte.
     pub fn generalisation(&self) -> u8 {
-        low8(self.row.numbers[4])
+        low8(self.row.numbers[row::GENERALISATION])
     }
 
     /// The scales between which it is shown.
     pub fn visibility(&self) -> Visibility {
-        Visibility::of(self.common.information, self.generalisation())
+        Visibility::of(self.common.flags, self.generalisation())
     }
 
     /// The word at +24: the first part's points under the mark, else carried unread.
     pub fn word(&self) -> u32 {
-        low32(self.row.numbers[5])
+        low32(self.row.numbers[row::WORD])
     }
 
     /// How many points the first part has.
     pub fn first_points(&self) -> u64 {
-        self.row.parts.first().map_or(0, |[points, _]| *points)
+        self.row.parts.first().map_or(0, |part| part[row::POINTS])
     }
 
     /// Its parts: the object itself, then its subobjects.
@@ -162,7 +164,7 @@ pub struct Records<'a> {
 
 impl<'a> Records<'a> {
     pub(crate) fn of(sheet: &'a [u8], common: Common, rows: Rows<'a>) -> Records<'a> {
-        Records { sheet, common, rows, number: 0, place: 452 }
+        Records { sheet, common, rows, number: 0, place: START }
     }
 }
 
@@ -174,10 +176,10 @@ impl<'a> Iterator for Records<'a> {
     fn next(&mut self) -> Option<Record<'a>> {
         let mut rows = self.rows;
         let row = rows.next()?;
-        let total = self.sheet.get(self.place..)?.get(4..)?.first_chunk()?;
-        let total_length = u32::from_le_bytes(*total) as usize;
-        let record = Record { number: self.number, place: self.place, total_length, common: self.common, row };
-        *self = Records { rows, number: self.number + 1, place: self.place.checked_add(total_length)?, ..*self };
+        let total = self.sheet.get(header::TOTAL.at(self.place).range())?.first_chunk()?;
+        let total = u32::from_le_bytes(*total) as usize;
+        let record = Record { number: self.number, place: self.place, total, common: self.common, row };
+        *self = Records { rows, number: self.number + 1, place: self.place.checked_add(total)?, ..*self };
         Some(record)
     }
 }

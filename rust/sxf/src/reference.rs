@@ -1,12 +1,13 @@
 //! The three reference bytes of a record, bytes 20 to 22, as one number with byte 20 lowest.
 use crate::ElementKind;
 use std::fmt;
+use sxf_sys::reference;
 
 /// The reference bytes.
 ///
 /// ```
 /// use sxf::reference::{Localisation, Reference};
-/// let reference = Reference::new(Localisation::Areal).with(Reference::FLOATING | Reference::LARGE_ELEMENTS);
+/// let reference = Reference::new(Localisation::Areal).with(Reference::FLOATING | Reference::ELEMENT_SIZE);
 /// assert_eq!(reference.planar().width(), 8);
 /// assert!(!reference.three_dimensions());
 /// ```
@@ -57,11 +58,11 @@ impl fmt::Display for Localisation {
 }
 
 macro_rules! bits {
-    ($($bit:literal $constant:ident $asked:ident $words:literal)*) => {
+    ($($constant:ident $asked:ident $words:literal)*) => {
         impl Reference {
             $(
                 #[doc = concat!("The bit of: ", $words, ".")]
-                pub const $constant: u32 = 1 << $bit;
+                pub const $constant: u32 = reference::$constant as u32;
 
                 #[doc = concat!("Whether it has: ", $words, ".")]
                 pub fn $asked(self) -> bool {
@@ -78,20 +79,20 @@ macro_rules! bits {
 }
 
 bits! {
-    4 MULTIPOLYGON multipolygon "multipolygon"
-    8 COMPRESSED_GRAPHICS compressed_graphics "compressed graphics"
-    9 SEMANTICS semantics "semantics"
-    10 LARGE_ELEMENTS large_elements "large elements"
-    11 BINDING_VECTOR binding_vector "binding vector"
-    12 UNICODE unicode "Unicode"
-    13 ABOVE_ALL above_all "above all"
-    14 BELOW_ALL below_all "below all"
-    15 VERTICAL_ALIGNMENT vertical_alignment "vertical alignment"
-    17 THREE_DIMENSIONS three_dimensions "three dimensions"
-    18 FLOATING floating "floating"
-    19 TEXT text "text in metric"
-    20 GRAPHICS graphics "graphics"
-    21 SCALABLE scalable "scalable"
+    MULTIPOLYGON multipolygon "multipolygon"
+    COMPRESSED_GRAPHICS compressed_graphics "compressed graphics"
+    SEMANTICS semantics "semantics"
+    ELEMENT_SIZE element_size "large elements"
+    BINDING_VECTOR binding_vector "binding vector"
+    UNICODE unicode "Unicode"
+    ABOVE_ALL above_all "above all"
+    BELOW_ALL below_all "below all"
+    VERTICAL_ALIGNMENT vertical_alignment "vertical alignment"
+    THREE_DIMENSIONS three_dimensions "three dimensions"
+    FLOATING floating "floating"
+    TEXT_IN_METRIC text_in_metric "text in metric"
+    GRAPHICS graphics "graphics"
+    SCALABLE scalable "scalable"
 }
 
 impl Reference {
@@ -111,7 +112,7 @@ impl Reference {
 
     /// Bits 0-3 of byte 20 as a number; over 5 is refused in a sheet.
     pub fn localisation_number(self) -> u32 {
-        self.0 % 16
+        self.0 & reference::LOCALISATION as u32
     }
 
     /// The localisation; none for a number over 5.
@@ -129,12 +130,12 @@ impl Reference {
 
     /// Bits 6-7 of byte 22.
     pub fn spline(self) -> u32 {
-        self.0 >> 22 & 3
+        (self.0 & reference::SPLINE as u32) >> reference::SPLINE.trailing_zeros()
     }
 
     /// How a planar element is stored.
     pub fn planar(self) -> ElementKind {
-        match (self.floating(), self.large_elements()) {
+        match (self.floating(), self.element_size()) {
             (false, false) => ElementKind::Short,
             (false, true) => ElementKind::Long,
             (true, false) => ElementKind::Single,
@@ -169,7 +170,7 @@ mod tests {
     #[test]
     fn a_point_has_the_documents_sizes() {
         let sizes = |more| {
-            [0, Reference::FLOATING, Reference::LARGE_ELEMENTS, Reference::FLOATING | Reference::LARGE_ELEMENTS]
+            [0, Reference::FLOATING, Reference::ELEMENT_SIZE, Reference::FLOATING | Reference::ELEMENT_SIZE]
                 .map(|bits| Reference(bits | more).point_size())
         };
         assert_eq!(sizes(0), [4, 8, 8, 16]);

@@ -1,6 +1,7 @@
 //! Refusals: a number, a place and a year.
 use std::error::Error;
 use std::fmt;
+use sxf_sys::refusals;
 
 /// A refusal, as the library gives it.
 ///
@@ -22,17 +23,17 @@ pub struct Refusal {
 }
 
 macro_rules! named {
-    ($($number:literal $constant:ident $name:literal $meaning:literal)*) => {
+    ($($constant:ident $name:literal $meaning:literal)*) => {
         impl Refusal {
             $(
                 #[doc = concat!("The number of ", $name, ": ", $meaning, ".")]
-                pub const $constant: u32 = $number;
+                pub const $constant: u32 = refusals::$constant as u32;
             )*
 
             /// The document's name.
             pub fn name(&self) -> &'static str {
                 match self.number {
-                    $($number => $name,)*
+                    $(Refusal::$constant => $name,)*
                     _ => "(no number of the document)",
                 }
             }
@@ -40,7 +41,7 @@ macro_rules! named {
             /// What it means, in a sentence.
             pub fn meaning(&self) -> &'static str {
                 match self.number {
-                    $($number => $meaning,)*
+                    $(Refusal::$constant => $meaning,)*
                     _ => "the library gave a number that the document does not have",
                 }
             }
@@ -49,29 +50,29 @@ macro_rules! named {
 }
 
 named! {
-    1 TOO_LONG "TOO LONG" "the sheet is longer than 16,777,216 bytes"
-    2 SHORT "SHORT" "the sheet, or what is left of it for a record, is too short"
-    3 NOT_SXF "NOT SXF" "an identifier differs, so this is no SXF sheet or it is damaged here"
-    4 EDITION "EDITION" "a fixed length or the edition is not that of SXF 4.0"
-    5 SUM "SUM" "the sum of the sheet's bytes is not the one stored, so some byte was changed"
-    6 TEXT "TEXT" "a text is not zero-ended and zero-filled, does not fit its field, or lacks its closing zero"
-    7 RESERVED "RESERVED" "a flag, code or reserved field has a value that is not allowed"
-    8 TOO_NEW "TOO NEW" "a feature here is later than the setting"
-    9 NOT_CARRIED "NOT CARRIED" "a record has a binding vector or graphics, which are not carried"
-    10 LENGTH "LENGTH" "a length is too small, does not fit, or leaves bytes over"
-    11 COUNT "COUNT" "a count of points does not agree with the mark for large counts"
-    12 SEMANTIC "SEMANTIC" "a semantic item has an unknown type, a bad scale or a bad length"
-    13 LEFT_OVER "LEFT OVER" "there are bytes after the last record"
-    14 TABLE "TABLE" "the record table is not well formed here"
-    15 ROOM "ROOM" "a lent output is too small"
-    16 ASK "ASK" "the year asked for is none of the nine settings, or there is no record of that number"
+    TOO_LONG "TOO LONG" "the sheet is longer than 16,777,216 bytes"
+    SHORT "SHORT" "the sheet, or what is left of it for a record, is too short"
+    NOT_SXF "NOT SXF" "an identifier differs, so this is no SXF sheet or it is damaged here"
+    EDITION "EDITION" "a fixed length or the edition is not that of SXF 4.0"
+    SUM "SUM" "the sum of the sheet's bytes is not the one stored, so some byte was changed"
+    TEXT "TEXT" "a text is not zero-ended and zero-filled, does not fit its field, or lacks its closing zero"
+    RESERVED "RESERVED" "a flag, code or reserved field has a value that is not allowed"
+    TOO_NEW "TOO NEW" "a feature here is later than the setting"
+    NOT_CARRIED "NOT CARRIED" "a record has a binding vector or graphics, which are not carried"
+    LENGTH "LENGTH" "a length is too small, does not fit, or leaves bytes over"
+    COUNT "COUNT" "a count of points does not agree with the mark for large counts"
+    SEMANTIC "SEMANTIC" "a semantic item has an unknown type, a bad scale or a bad length"
+    LEFT_OVER "LEFT OVER" "there are bytes after the last record"
+    TABLE "TABLE" "the record table is not well formed here"
+    ROOM "ROOM" "a lent output is too small"
+    ASK "ASK" "the year asked for is none of the nine settings, or there is no record of that number"
 }
 
 impl Refusal {
     /// The refusal of an answer, or success where its number is 0.
     pub(crate) fn answered(number: u64, place: u64, year: u64) -> Result<(), Refusal> {
         match number {
-            0 => Ok(()),
+            refusals::OK => Ok(()),
             _ => Err(Refusal { number: low32(number), place: place as usize, year: low32(year) }),
         }
     }
@@ -80,7 +81,7 @@ impl Refusal {
     pub(crate) const NO_SUCH: Refusal = Refusal { number: Refusal::ASK, place: 0, year: 0 };
 }
 
-/// The library's answers of 32 bits come as numbers of 64; one that does not fit would go against its contract.
+/// Numbers of 32 bits are answered as 64; one that does not fit would go against the library's contract.
 pub(crate) fn low32(number: u64) -> u32 {
     u32::try_from(number).unwrap_or(u32::MAX)
 }
@@ -103,16 +104,22 @@ mod tests {
 
     #[test]
     fn is_told_by_number_name_place_and_meaning() {
-        let text = Refusal { number: 6, place: 28, year: 0 };
+        let text = Refusal { number: Refusal::TEXT, place: 28, year: 0 };
         assert!(text.to_string().starts_with("refusal 6 TEXT at 28 (0x1c): a text "));
-        let new = Refusal { number: 8, place: 472, year: 2016 };
+        let new = Refusal { number: Refusal::TOO_NEW, place: 472, year: 2016 };
         assert_eq!(new.to_string(), "refusal 8 TOO NEW at 472 (0x1d8): a feature here is later than the setting; it came in 2016");
     }
 
     #[test]
     fn each_number_has_a_name() {
         let of = |number| Refusal { number, place: 0, year: 0 }.name();
-        assert!((1..=16).all(|n| !of(n).starts_with('(')));
+        assert!((Refusal::TOO_LONG..=Refusal::ASK).all(|n| !of(n).starts_with('(')));
         assert!(of(0).starts_with('(') && of(17).starts_with('('));
+    }
+
+    #[test]
+    fn the_limit_is_told_as_it_is() {
+        let told = Refusal { number: Refusal::TOO_LONG, place: 0, year: 0 }.meaning().replace(',', "");
+        assert!(told.contains(&crate::LIMIT.to_string()), "{told}");
     }
 }

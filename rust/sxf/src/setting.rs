@@ -1,6 +1,7 @@
 //! The nine settings: the year that a sheet is read or written for.
-use crate::{raw, Refusal};
+use crate::Refusal;
 use std::fmt;
+use sxf_sys::{lent, refusals};
 
 /// One of the nine years.
 ///
@@ -34,8 +35,8 @@ impl Setting {
     /// The setting of a year that comes from outside, or ASK. The library is asked whether there is one: the setting is the first thing it
     /// looks at.
     pub fn new(year: u32) -> Result<Setting, Refusal> {
-        match raw::check(&[], year).number {
-            16 => Err(Refusal::NO_SUCH),
+        match lent::check(&[], year).number {
+            refusals::ASK => Err(Refusal::NO_SUCH),
             _ => Ok(Setting { year }),
         }
     }
@@ -55,11 +56,13 @@ impl fmt::Display for Setting {
 #[cfg(test)]
 mod tests {
     use super::*;
+    use sxf_sys::years::SETTINGS;
 
     #[test]
     fn the_library_has_these_nine_and_no_other() {
         let had: Vec<Setting> = (0..3000).filter_map(|year| Setting::new(year).ok()).collect();
         assert_eq!(had, Setting::ALL);
+        assert_eq!(Setting::ALL.map(Setting::year), SETTINGS);
         assert!(Setting::new(u32::MAX).is_err());
     }
 }

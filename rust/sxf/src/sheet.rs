@@ -5,7 +5,9 @@ use crate::item::Coding;
 use crate::record::{Common, Record, RecordAt, Records};
 use crate::refusal::low32;
 use crate::table::{Table, TableRef};
-use crate::{raw, Refusal, Setting};
+use crate::{Refusal, Setting};
+use sxf_sys::fields::passport;
+use sxf_sys::{lent, units, Field};
 
 /// What an accepted sheet has: its sum, its count of records, and the lengths of the three outputs of unfolding it.
 #[derive(Clone, Copy, Debug, PartialEq, Eq)]
@@ -23,7 +25,7 @@ pub struct Sizes {
 }
 
 impl Sizes {
-    pub(crate) fn of(answer: raw::Checked) -> Result<Sizes, Refusal> {
+    pub(crate) fn of(answer: sxf_sys::Checked) -> Result<Sizes, Refusal> {
         Refusal::answered(answer.number, answer.place, answer.year)?;
         Ok(Sizes {
             sum: low32(answer.sum),
@@ -47,24 +49,24 @@ impl Sizes {
 /// assert_eq!(check(b"no sheet", Setting::Y2017).unwrap_err().number, Refusal::SHORT);
 /// ```
 pub fn check(sheet: &[u8], setting: Setting) -> Result<Sizes, Refusal> {
-    Sizes::of(raw::check(sheet, setting.year()))
+    Sizes::of(lent::check(sheet, setting.year()))
 }
 
 /// One record of a sheet, by its number from 0. The whole sheet is checked first, so for many records read the sheet once.
 pub fn record_at(sheet: &[u8], setting: Setting, number: u64) -> Result<RecordAt, Refusal> {
-    let answer = raw::record_at(sheet, setting.year(), number);
+    let answer = lent::record_at(sheet, setting.year(), number);
     Refusal::answered(answer.number, answer.place, answer.year)?;
     Ok(RecordAt::of(&answer))
 }
 
 fn unit_of(sheet: &[u8], setting: Setting) -> Result<Unit, Refusal> {
-    let answer = raw::unit_of(sheet, setting.year());
+    let answer = lent::unit_of(sheet, setting.year());
     Refusal::answered(answer.number, answer.place, answer.year)?;
     Ok(match answer.unit {
-        1 => Unit::DevicePoints,
-        2 => Unit::Metres,
-        3 => Unit::Radians,
-        4 => Unit::Degrees,
+        units::DEVICE_POINTS => Unit::DevicePoints,
+        units::METRES => Unit::Metres,
+        units::RADIANS => Unit::Radians,
+        units::DEGREES => Unit::Degrees,
         _ => Unit::Unknown(u8::try_from(answer.byte).unwrap_or(u8::MAX)),
     })
 }
@@ -99,8 +101,9 @@ impl<'a> Sheet<'a> {
     pub fn read(bytes: &'a [u8], setting: Setting) -> Result<Sheet<'a>, Refusal> {
         let sizes = check(bytes, setting)?;
         let table = Table::unfold_sized(bytes, setting, &sizes)?;
-        let byte = |place| bytes.get(place).copied().unwrap_or(0);
-        let common = Common { unit: unit_of(bytes, setting)?, information: byte(96), labels: Coding::of_labels(byte(97)) };
+        let byte = |field: Field| bytes.get(field.place).copied().unwrap_or(0);
+        let (flags, labels) = (byte(passport::FLAGS), Coding::of_labels(byte(passport::LABELS)));
+        let common = Common { unit: unit_of(bytes, setting)?, flags, labels };
         Ok(Sheet { bytes, setting, sizes, table, common })
     }
 
@@ -144,16 +147,16 @@ impl<'a> Sheet<'a> {
         self.common.unit
     }
 
-    /// Its head as the writer takes it, carried bytes and all. The library checks the sheet again for it.
+    /// Its head as the writer takes it, with all that is carried. The library checks the sheet again for it.
     pub fn head(&self) -> Result<Head<'a>, Refusal> {
-        let answer = raw::head_of(self.bytes, self.setting.year());
+        let answer = lent::head_of(self.bytes, self.setting.year());
         Refusal::answered(answer.number, answer.place, answer.year)?;
         Head::of(self.bytes, &answer).ok_or(Refusal { number: Refusal::SHORT, place: 0, year: 0 })
     }
 
     /// Its eight plane corners. The library checks the sheet again for it.
     pub fn corners(&self) -> Result<Corners, Refusal> {
-        let answer = raw::corners_of(self.bytes, self.setting.year());
+        let answer = lent::corners_of(self.bytes, self.setting.year());
         Refusal::answered(answer.number, answer.place, answer.year)?;
         Ok(Corners::of(&answer))
     }

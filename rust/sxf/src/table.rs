@@ -1,21 +1,16 @@
 //! The record table: what unfolding fills and the writer takes.
 //!
-//! Per record eight numbers: code, number in group, group number, reference bytes, generalisation, word at +24, parts, items. Then per part
-//! two: points, text length. Then per item four: code, type, scale byte, value length. Beside the numbers stand a pool of elements as stored
-//! bits and a pool of bytes: texts without their closing zero, values with theirs.
+//! [`row`] names its numbers. Beside them stand a pool of elements as stored bits and a pool of bytes: texts without their closing zero,
+//! values with theirs.
 use crate::reference::Reference;
 use crate::refusal::low32;
-use crate::{raw, Refusal, Setting, Sizes};
+use crate::{Refusal, Setting, Sizes};
 use std::fmt;
+use sxf_sys::fields::{header, item, subobject, START};
+use sxf_sys::lent;
+use sxf_sys::row::{self, ITEM_WIDTH, PART_WIDTH, ROW_WIDTH};
 
-/// Where a record's eight numbers stand in its row.
-mod column {
-    pub const REFERENCE: usize = 3;
-    pub const PARTS: usize = 6;
-    pub const ITEMS: usize = 7;
-}
-
-/// A record table of one's own.
+/// A record table in memory of its own.
 #[derive(Clone, Debug, Default, PartialEq, Eq)]
 pub struct Table {
     /// The numbers.
@@ -40,12 +35,12 @@ pub struct TableRef<'a> {
 /// One record's part of a table. The numbers are as they stand there, also where a writer would refuse them.
 #[derive(Clone, Copy, Debug, PartialEq, Eq)]
 pub struct Row<'a> {
-    /// Code, number in group, group number, reference bytes, generalisation, word, parts, items.
-    pub numbers: &'a [u64; 8],
-    /// Of each part its points and its text length.
-    pub parts: &'a [[u64; 2]],
-    /// Of each item its code, type, scale byte and value length.
-    pub items: &'a [[u64; 4]],
+    /// The record's own, by the indices of [`row::Record`].
+    pub numbers: &'a [u64; ROW_WIDTH],
+    /// Those of each part, by the indices of [`row::Part`].
+    pub parts: &'a [[u64; PART_WIDTH]],
+    /// Those of each item, by the indices of [`row::Item`].
+    pub items: &'a [[u64; ITEM_WIDTH]],
     /// The elements of all parts.
     pub elements: &'a [u64],
     /// The texts of all parts.
@@ -71,11 +66,11 @@ impl Table {
     /// Unfolds a sheet into room of these sizes, which checking it has answered. Where unfolding answers others, which would go against the
     /// library's contract, it is ROOM for the first that differs.
     pub(crate) fn unfold_sized(sheet: &[u8], setting: Setting, sizes: &Sizes) -> Result<Table, Refusal> {
-        let lent = sizes.lengths();
-        let (answer, table) = raw::unfold_new(sheet, setting.year(), lent);
+        let room = sizes.lengths();
+        let (answer, (numbers, elements, bytes)) = lent::unfold_new(sheet, setting.year(), room);
         let written = Sizes::of(answer)?.lengths();
-        match (0..3).find(|&output| written[output] != lent[output]) {
-            None => Ok(table),
+        match (0..3).find(|&output| written[output] != room[output]) {
+            None => Ok(Table { numbers, elements, bytes }),
             Some(output) => Err(Refusal { number: Refusal::ROOM, place: output + 1, year: 0 }),
         }
     }
@@ -109,7 +104,7 @@ pub fn unfold_into(
     elements: &mut [u64],
     bytes: &mut [u8],
 ) -> Result<Sizes, Refusal> {
-    Sizes::of(raw::unfold(sheet, setting.year(), numbers, elements, bytes))
+    Sizes::of(lent::unfold(sheet, setting.year(), numbers, elements, bytes))
 }
 
 impl<'a> TableRef<'a> {
@@ -121,7 +116,7 @@ impl<'a> TableRef<'a> {
     /// How long the sheet of this table is, if the table is well formed: what the writer needs room for.
     pub fn sheet_length(self) -> Option<usize> {
         let mut rows = self.rows();
-        let length = rows.by_ref().try_fold(452, |length: usize, row| length.checked_add(row.record_length()?))?;
+        let length = rows.by_ref().try_fold(START, |length: usize, row| length.checked_add(row.record_length()?))?;
         (rows.rest == TableRef::default()).then_some(length)
     }
 
@@ -143,10 +138,10 @@ impl<'a> TableRef<'a> {
 
     fn take_row(self) -> Option<(Row<'a>, TableRef<'a>)> {
         let (RowNumbers { numbers, parts, items }, rest) = RowNumbers::take(self.numbers)?;
-        let elements = total(parts.iter().map(|[points, _]| points))?.checked_mul(reference_of(numbers).elements())?;
+        let elements = total(parts, row::POINTS)?.checked_mul(reference_of(numbers).elements())?;
         let (elements, elements_rest) = self.elements.split_at_checked(elements)?;
-        let (texts, bytes) = self.bytes.split_at_checked(total(parts.iter().map(|[_, text]| text))?)?;
-        let (values, bytes) = bytes.split_at_checked(total(items.iter().map(|[_, _, _, value]| value))?)?;
+        let (texts, bytes) = self.bytes.split_at_checked(total(parts, row::TEXT_LENGTH)?)?;
+        let (values, bytes) = bytes.split_at_checked(total(items, row::ITEM_LENGTH)?)?;
         let row = Row { numbers, parts, items, elements, texts, values };
         Some((row, TableRef { numbers: rest, elements: elements_rest, bytes }))
     }
@@ -154,48 +149,49 @@ impl<'a> TableRef<'a> {
 
 /// The numbers of a row, without the pools.
 struct RowNumbers<'a> {
-    numbers: &'a [u64; 8],
-    parts: &'a [[u64; 2]],
-    items: &'a [[u64; 4]],
+    numbers: &'a [u64; ROW_WIDTH],
+    parts: &'a [[u64; PART_WIDTH]],
+    items: &'a [[u64; ITEM_WIDTH]],
 }
 
 impl<'a> RowNumbers<'a> {
     fn take(table: &'a [u64]) -> Option<(RowNumbers<'a>, &'a [u64])> {
-        let (numbers, rest) = table.split_first_chunk::<8>()?;
-        let (parts, rest) = take_arrays(rest, numbers[column::PARTS])?;
-        let (items, rest) = take_arrays(rest, numbers[column::ITEMS])?;
+        let (numbers, rest) = table.split_first_chunk::<ROW_WIDTH>()?;
+        let (parts, rest) = take_arrays(rest, numbers[row::PARTS])?;
+        let (items, rest) = take_arrays(rest, numbers[row::ITEMS])?;
         Some((RowNumbers { numbers, parts, items }, rest))
     }
 
     fn length(&self) -> usize {
-        8 + self.parts.as_flattened().len() + self.items.as_flattened().len()
+        row::row_size(self.parts.len(), self.items.len())
     }
 
     fn spot(&self, record: usize, within: usize) -> Spot {
-        let Some(at) = within.checked_sub(8) else {
+        let Some(in_parts) = within.checked_sub(ROW_WIDTH) else {
             return Spot { record, inner: Inner::Number(within) };
         };
-        let inner = match at.checked_sub(self.parts.as_flattened().len()) {
-            None => Inner::Part(at / 2, at % 2),
-            Some(at) => Inner::Item(at / 4, at % 4),
+        let inner = match in_parts.checked_sub(self.parts.as_flattened().len()) {
+            None => Inner::Part(in_parts / PART_WIDTH, in_parts % PART_WIDTH),
+            Some(in_items) => Inner::Item(in_items / ITEM_WIDTH, in_items % ITEM_WIDTH),
         };
         Spot { record, inner }
     }
 }
 
-fn reference_of(numbers: &[u64; 8]) -> Reference {
-    Reference(low32(numbers[column::REFERENCE]))
+fn reference_of(numbers: &[u64; ROW_WIDTH]) -> Reference {
+    Reference(low32(numbers[row::REFERENCE]))
 }
 
-/// So many arrays of N numbers, and the numbers after them.
+/// The first so many arrays of N numbers, and the numbers after them; none where there are fewer.
 fn take_arrays<const N: usize>(numbers: &[u64], count: u64) -> Option<(&[[u64; N]], &[u64])> {
     let length = usize::try_from(count).ok()?.checked_mul(N)?;
     let (arrays, rest) = numbers.split_at_checked(length)?;
     Some((arrays.as_chunks().0, rest))
 }
 
-fn total<'a>(mut numbers: impl Iterator<Item = &'a u64>) -> Option<usize> {
-    numbers.try_fold(0usize, |sum, &n| sum.checked_add(usize::try_from(n).ok()?))
+/// The sum of one column of the arrays.
+fn total<const N: usize>(arrays: &[[u64; N]], column: usize) -> Option<usize> {
+    arrays.iter().try_fold(0usize, |sum, array| sum.checked_add(usize::try_from(array[column]).ok()?))
 }
 
 impl<'a> Row<'a> {
@@ -208,17 +204,18 @@ impl<'a> Row<'a> {
     fn record_length(&self) -> Option<usize> {
         let reference = self.reference();
         let points = self.elements.len() / reference.elements();
-        let heads = self.parts.len().checked_sub(1)?.checked_mul(4)?;
-        // A length byte and a closing zero beside each text.
-        let texts = if reference.text() { self.parts.len().checked_mul(2)?.checked_add(self.texts.len())? } else { 0 };
+        let heads = self.parts.len().checked_sub(1)?.checked_mul(subobject::SIZE)?;
+        // Each text has a byte for its length before it and a closing zero after it.
+        let texts = if reference.text_in_metric() { self.parts.len().checked_mul(2)?.checked_add(self.texts.len())? } else { 0 };
         let values = self.items.iter().try_fold(0usize, |sum, item| sum.checked_add(item_length(item)?))?;
-        [points.checked_mul(reference.point_size())?, heads, texts, values].into_iter().try_fold(32, usize::checked_add)
+        [points.checked_mul(reference.point_size())?, heads, texts, values].into_iter().try_fold(header::SIZE, usize::checked_add)
     }
 }
 
-/// The bytes of an item: its head, the length field of type 128, its value.
-fn item_length(&[_, kind, _, value]: &[u64; 4]) -> Option<usize> {
-    usize::try_from(value).ok()?.checked_add(if kind == 128 { 8 } else { 4 })
+/// How many bytes an item has: its head, the length that type 128 has, its value.
+fn item_length(numbers: &[u64; ITEM_WIDTH]) -> Option<usize> {
+    let row::Item { kind, length, .. } = row::Item::of(numbers);
+    usize::try_from(length).ok()?.checked_add(if kind == 128 { item::LONG_LENGTH.after() } else { item::SIZE })
 }
 
 /// The rows of a table.
@@ -244,7 +241,7 @@ impl<'a> Iterator for Rows<'a> {
     }
 }
 
-/// Which number of which record. It is told in words, as `record 0, reference bytes`.
+/// Which number of which record. It prints in words, as `record 0, reference bytes`.
 #[derive(Clone, Copy, Debug, PartialEq, Eq)]
 pub struct Spot {
     /// The record's number, from 0.
@@ -252,6 +249,7 @@ pub struct Spot {
     inner: Inner,
 }
 
+/// A column of the record's own numbers, or the number of a part or an item and a column of that.
 #[derive(Clone, Copy, Debug, PartialEq, Eq)]
 enum Inner {
     Number(usize),
@@ -259,20 +257,45 @@ enum Inner {
     Item(usize, usize),
 }
 
-const NUMBERS: [&str; 8] =
-    ["code", "number in group", "group number", "reference bytes", "generalisation", "word at +24", "parts", "items"];
+fn record_word(column: usize) -> &'static str {
+    match column {
+        row::CODE => "code",
+        row::IN_GROUP => "number in group",
+        row::GROUP => "group number",
+        row::REFERENCE => "reference bytes",
+        row::GENERALISATION => "generalisation",
+        row::WORD => "word at +24",
+        row::PARTS => "parts",
+        row::ITEMS => "items",
+        _ => "?",
+    }
+}
 
-fn word<'a>(words: &[&'a str], index: usize) -> &'a str {
-    words.get(index).copied().unwrap_or("?")
+fn part_word(column: usize) -> &'static str {
+    match column {
+        row::POINTS => "points",
+        row::TEXT_LENGTH => "text length",
+        _ => "?",
+    }
+}
+
+fn item_word(column: usize) -> &'static str {
+    match column {
+        row::ITEM_CODE => "code",
+        row::ITEM_TYPE => "type",
+        row::ITEM_SCALE => "scale byte",
+        row::ITEM_LENGTH => "value length",
+        _ => "?",
+    }
 }
 
 impl fmt::Display for Spot {
     fn fmt(&self, f: &mut fmt::Formatter<'_>) -> fmt::Result {
         write!(f, "record {}, ", self.record)?;
         match self.inner {
-            Inner::Number(i) => f.write_str(word(&NUMBERS, i)),
-            Inner::Part(part, i) => write!(f, "part {part}, {}", word(&["points", "text length"], i)),
-            Inner::Item(item, i) => write!(f, "item {item}, {}", word(&["code", "type", "scale byte", "value length"], i)),
+            Inner::Number(column) => f.write_str(record_word(column)),
+            Inner::Part(part, column) => write!(f, "part {part}, {}", part_word(column)),
+            Inner::Item(item, column) => write!(f, "item {item}, {}", item_word(column)),
         }
     }
 }
@@ -281,7 +304,13 @@ impl fmt::Display for Spot {
 mod tests {
     use super::*;
 
-    const Q: [u64; 14] = [0, 0, 0, 0x202, 255, 0, 1, 1, 1, 0, 1, 2, 0xFF, 2];
+    /// The numbers of document 01's sheet Q: of its record, its part and its item.
+    #[rustfmt::skip]
+    const Q: [u64; 14] = [
+        0, 0, 0, 0x202, 255, 0, 1, 1,
+        1, 0,
+        1, 2, 0xFF, 2,
+    ];
 
     fn q() -> TableRef<'static> {
         TableRef { numbers: &Q, elements: &[3, 4], bytes: &[0xF9, 4] }
@@ -295,16 +324,24 @@ mod tests {
         assert_eq!(q().sheet_length(), Some(494));
     }
 
+    /// A row that states these counts, with these parts after it.
+    fn stating(parts: u64, items: u64, after: &[row::Part]) -> Vec<u64> {
+        let record = row::Record { parts, items, ..row::Record::default() };
+        record.numbers().into_iter().chain(after.iter().flat_map(|part| part.numbers())).collect()
+    }
+
     #[test]
     fn a_row_that_calls_for_more_than_there_is_ends_the_rows() {
+        let (many_points, long_text) =
+            (row::Part { points: u64::MAX, text_length: 0 }, row::Part { points: 1, text_length: u64::MAX });
         for broken in [
             TableRef { numbers: &Q[..13], ..q() },
             TableRef { numbers: &Q[..7], ..q() },
             TableRef { elements: &[3], ..q() },
             TableRef { bytes: &[0xF9], ..q() },
-            TableRef { numbers: &[0, 0, 0, 0, 0, 0, u64::MAX, u64::MAX], ..q() },
-            TableRef { numbers: &[0, 0, 0, 0, 0, 0, 1, 0, u64::MAX, 0], ..q() },
-            TableRef { numbers: &[0, 0, 0, 0, 0, 0, 2, 0, u64::MAX, 0, 1, u64::MAX], ..q() },
+            TableRef { numbers: &stating(u64::MAX, u64::MAX, &[]), ..q() },
+            TableRef { numbers: &stating(1, 0, &[many_points]), ..q() },
+            TableRef { numbers: &stating(2, 0, &[many_points, long_text]), ..q() },
         ] {
             assert_eq!(broken.rows().next(), None);
             assert_eq!(broken.sheet_length(), None);
@@ -329,13 +366,14 @@ mod tests {
     #[test]
     fn spots_are_told_in_words() {
         let told = |index| q().spot(index).map(|spot| spot.to_string());
-        assert_eq!(told(3).as_deref(), Some("record 0, reference bytes"));
-        assert_eq!(told(9).as_deref(), Some("record 0, part 0, text length"));
-        assert_eq!(told(13).as_deref(), Some("record 0, item 0, value length"));
-        assert_eq!((told(14), told(usize::MAX)), (None, None));
+        let (part, item) = (ROW_WIDTH, ROW_WIDTH + PART_WIDTH);
+        assert_eq!(told(row::REFERENCE).as_deref(), Some("record 0, reference bytes"));
+        assert_eq!(told(part + row::TEXT_LENGTH).as_deref(), Some("record 0, part 0, text length"));
+        assert_eq!(told(item + row::ITEM_LENGTH).as_deref(), Some("record 0, item 0, value length"));
+        assert_eq!((told(Q.len()), told(usize::MAX)), (None, None));
         let twice = [Q, Q].concat();
         let told = |index| TableRef { numbers: &twice, ..q() }.spot(index).map(|spot| spot.to_string());
-        assert_eq!(told(14 + 10).as_deref(), Some("record 1, item 0, code"));
+        assert_eq!(told(Q.len() + item + row::ITEM_CODE).as_deref(), Some("record 1, item 0, code"));
         assert_eq!(TableRef { numbers: &Q[..13], ..q() }.spot(0), None);
     }
 }

@@ -1,7 +1,7 @@
 //! The generalisation byte: the scales between which a record is shown.
-use crate::raw;
 use crate::refusal::low32;
 use std::fmt;
+use sxf_sys::lent;
 
 /// What a generalisation byte says.
 #[derive(Clone, Copy, Debug, PartialEq, Eq, Hash)]
@@ -26,7 +26,7 @@ impl Visibility {
     /// assert_eq!(Visibility::of(3, 0xFF), Visibility::Unset);
     /// ```
     pub fn of(flags: u8, generalisation: u8) -> Visibility {
-        let answer = raw::visibility_of(flags, generalisation);
+        let answer = lent::visibility_of(flags, generalisation);
         match answer.set {
             0 => Visibility::Unset,
             _ => Visibility::Bounds { lower: low32(answer.lower), upper: low32(answer.upper) },

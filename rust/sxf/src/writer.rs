@@ -1,12 +1,16 @@
 //! A sheet is written, from a head and a record table.
 use crate::coordinates::{Coordinate, ElementKind, Unit};
 use crate::head::Head;
-use crate::item::Coding;
-use crate::part::Point;
+use crate::item::{Coding, Item};
+use crate::part::{Part, Point};
+use crate::record::Record;
 use crate::table::{Row, Table, TableRef};
-use crate::{raw, Reference, Refusal, Setting, Sheet, LIMIT};
+use crate::{Reference, Refusal, Setting, Sheet, LIMIT};
 use std::error::Error;
 use std::fmt;
+use sxf_sys::lent::{self, Contents};
+use sxf_sys::row::{self, ITEM_WIDTH, PART_WIDTH};
+use sxf_sys::MARK;
 
 /// Writes a sheet. The room is worked out from the table, and is exact.
 ///
@@ -33,7 +37,10 @@ pub fn write(head: &Head<'_>, table: TableRef<'_>, setting: Setting) -> Result<V
 
 /// Writes a sheet into a lent slice: how many of its bytes are the sheet. A refusal leaves it as it was.
 pub fn write_into(head: &Head<'_>, table: TableRef<'_>, setting: Setting, out: &mut [u8]) -> Result<usize, Refusal> {
-    let answer = raw::write(setting.year(), head, table, out);
+    let Head { date, designation, scale, title, rest, designation2, carried } = *head;
+    let TableRef { numbers: table, elements, bytes } = table;
+    let from = Contents { date, designation, scale, title, rest, designation2, carried, table, elements, bytes };
+    let answer = lent::write(setting.year(), &from, out);
     Refusal::answered(answer.number, answer.place, answer.year)?;
     Ok(answer.length as usize)
 }
@@ -111,9 +118,9 @@ pub struct NewRecord {
     /// Its class code.
     pub code: u32,
     /// Its number in its group.
-    pub number_in_group: u16,
+    pub in_group: u16,
     /// Its group's number.
-    pub group_number: u16,
+    pub group: u16,
     /// Its reference bytes.
     pub reference: Reference,
     /// Its generalisation byte; 255 is unset.
@@ -130,12 +137,12 @@ impl NewRecord {
     /// A record of no part and no item, visibility unset.
     pub fn new(code: u32, reference: Reference) -> NewRecord {
         let (parts, items) = (Vec::new(), Vec::new());
-        NewRecord { code, number_in_group: 0, group_number: 0, reference, generalisation: 255, word: 0, parts, items }
+        NewRecord { code, in_group: 0, group: 0, reference, generalisation: 255, word: 0, parts, items }
     }
 
     /// The same with one more part. A first part of 65535 points or more has its count in the word.
     pub fn part(mut self, part: NewPart) -> NewRecord {
-        if self.parts.is_empty() && part.points.len() >= 65535 {
+        if self.parts.is_empty() && part.points.len() as u64 >= MARK {
             // A count that does not fit is far over the limit of a sheet.
             self.word = u32::try_from(part.points.len()).unwrap_or(u32::MAX);
         }
@@ -151,33 +158,62 @@ impl NewRecord {
     }
 
     fn numbers(&self) -> impl Iterator<Item = u64> + '_ {
-        let row = [
-            u64::from(self.code),
-            u64::from(self.number_in_group),
-            u64::from(self.group_number),
-            u64::from(self.reference.0),
-            u64::from(self.generalisation),
-            u64::from(self.word),
-            self.parts.len() as u64,
-            self.items.len() as u64,
-        ];
-        let parts = self.parts.iter().flat_map(|part| [part.points.len() as u64, part.text.len() as u64]);
+        let record = row::Record {
+            code: self.code.into(),
+            in_group: self.in_group.into(),
+            group: self.group.into(),
+            reference: self.reference.0.into(),
+            generalisation: self.generalisation.into(),
+            word: self.word.into(),
+            parts: self.parts.len() as u64,
+            items: self.items.len() as u64,
+        };
+        let parts = self.parts.iter().flat_map(NewPart::numbers);
         let items = self.items.iter().flat_map(NewItem::numbers);
-        row.into_iter().chain(parts).chain(items)
+        record.numbers().into_iter().chain(parts).chain(items)
     }
 
     fn elements(&self, unit: Unit) -> Result<Vec<u64>, Misfit> {
         let mut elements = Vec::new();
         for (part, new) in self.parts.iter().enumerate() {
-            for (point, at) in new.points.iter().enumerate() {
-                let misfit = |why| Misfit { part, point, why };
-                store(at, self.reference, unit, &mut elements).map_err(misfit)?;
+            for (number, point) in new.points.iter().enumerate() {
+                let misfit = |why| Misfit { part, point: number, why };
+                store(point, self.reference, unit, &mut elements).map_err(misfit)?;
             }
         }
         Ok(elements)
     }
 }
 
+/// A record that was read, to be written again or changed first.
+///
+/// ```
+/// use sxf::{NewRecord, Setting, Sheet, Writer};
+/// # let bytes = include_bytes!("../../../samples/Q.sxf");
+/// let sheet = Sheet::read(bytes, Setting::Y2017)?;
+/// let mut writer = Writer::new(sheet.head()?)?;
+/// for record in sheet.records() {
+///     writer.push(&NewRecord { code: 31_410_000, ..record.into() })?;
+/// }
+/// # assert_eq!(Sheet::read(&writer.write(Setting::Y2017)?, Setting::Y2017)?.record(0)?.code(), 31_410_000);
+/// # Ok::<(), Box<dyn std::error::Error>>(())
+/// ```
+impl From<Record<'_>> for NewRecord {
+    fn from(record: Record<'_>) -> NewRecord {
+        NewRecord {
+            code: record.code(),
+            in_group: record.in_group(),
+            group: record.group(),
+            reference: record.reference(),
+            generalisation: record.generalisation(),
+            word: record.word(),
+            parts: record.parts().map(NewPart::from).collect(),
+            items: record.items().map(NewItem::from).collect(),
+        }
+    }
+}
+
+/// Adds the elements of a point, or says why it does not fit its record or its sheet.
 fn store(point: &Point, reference: Reference, unit: Unit, elements: &mut Vec<u64>) -> Result<(), Why> {
     for coordinate in [point.x, point.y] {
         elements.push(planar_bits(coordinate, reference.planar(), unit)?);
@@ -218,6 +254,16 @@ impl NewPart {
     pub fn text(mut self, text: impl Into<Vec<u8>>) -> NewPart {
         self.text = text.into();
         self
+    }
+
+    fn numbers(&self) -> [u64; PART_WIDTH] {
+        row::Part { points: self.points.len() as u64, text_length: self.text.len() as u64 }.numbers()
+    }
+}
+
+impl From<Part<'_>> for NewPart {
+    fn from(part: Part<'_>) -> NewPart {
+        NewPart { points: part.points().collect(), text: part.text().map_or(Vec::new(), |text| text.bytes.to_vec()) }
     }
 }
 
@@ -277,8 +323,15 @@ impl NewItem {
         }
     }
 
-    fn numbers(&self) -> [u64; 4] {
-        [u64::from(self.code), u64::from(self.kind), u64::from(self.scale), self.bytes.len() as u64]
+    fn numbers(&self) -> [u64; ITEM_WIDTH] {
+        let length = self.bytes.len() as u64;
+        row::Item { code: self.code.into(), kind: self.kind.into(), scale: self.scale.into(), length }.numbers()
+    }
+}
+
+impl From<Item<'_>> for NewItem {
+    fn from(Item { code, kind, scale, bytes }: Item<'_>) -> NewItem {
+        NewItem { code, kind, scale, bytes: bytes.to_vec() }
     }
 }
 

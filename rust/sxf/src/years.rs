@@ -1,5 +1,7 @@
 //! Which features a sheet has, and from which year.
 use crate::{check, Refusal, Setting, Sizes};
+use sxf_sys::fields::{descriptor, header, passport, START};
+use sxf_sys::{reference, years, Field};
 
 /// A feature of a sheet that some settings meet first, and refuse the sheet for.
 #[derive(Clone, Copy, Debug, PartialEq, Eq)]
@@ -59,38 +61,51 @@ impl Feature {
     /// What it is, in the document's words. The library gives place and year; the name is read off the byte there.
     pub fn name(&self, sheet: &[u8]) -> &'static str {
         let byte = sheet.get(self.place).copied().unwrap_or(0);
-        match self.place {
-            98 => "accuracy not 0",
-            99 => "special sorting",
-            100 => "EPSG not 0",
-            384 => "north offset",
-            392 => "east offset",
-            447 if byte & 1 != 0 => "automatic GUID",
-            447 => "edit date",
-            _ => self.of_record(self.place - record_start(sheet, self.place), byte),
+        let of_rest = OF_REST.iter().find(|(field, _)| field.place == self.place);
+        match of_rest {
+            Some((_, name)) => name,
+            None if self.place == descriptor::KEEPING.place && byte & 1 != 0 => "automatic GUID",
+            None if self.place == descriptor::KEEPING.place => "edit date",
+            None => self.of_record(self.place - record_start(sheet, self.place), byte),
         }
     }
 
+    /// The name of a feature at a byte of a record. Two features of byte 21 came in 2008 and two in 2014: of each pair the lower bit is the
+    /// one that a setting meets first.
     fn of_record(&self, within: usize, byte: u8) -> &'static str {
+        const BYTE20: usize = header::BYTE20.place;
+        const BYTE21: usize = header::BYTE21.place;
+        const BYTE22: usize = header::BYTE22.place;
+        const POINTS: usize = header::POINTS.place;
+        let byte21_has = |bit: u64| u64::from(byte) << 8 & bit != 0;
         match (within, self.year) {
-            (20, _) => "multipolygon",
-            (21, 2008) if byte & 8 != 0 => "binding vector",
-            (21, 2008) => "Unicode",
-            (21, 2014) if byte & 0x20 != 0 => "above all",
-            (21, 2014) => "below all",
-            (21, 2015) => "compressed graphics",
-            (21, _) => "vertical alignment",
-            (22, _) => "spline bits",
-            (30, _) => "the mark 65535",
-            (32.., 2012) => "item of type 128",
+            (BYTE20, _) => "multipolygon",
+            (BYTE21, years::BINDING_VECTOR) if byte21_has(reference::BINDING_VECTOR) => "binding vector",
+            (BYTE21, years::UNICODE) => "Unicode",
+            (BYTE21, years::ABOVE_ALL) if byte21_has(reference::ABOVE_ALL) => "above all",
+            (BYTE21, years::BELOW_ALL) => "below all",
+            (BYTE21, years::COMPRESSED_GRAPHICS) => "compressed graphics",
+            (BYTE21, _) => "vertical alignment",
+            (BYTE22, _) => "spline bits",
+            (POINTS, _) => "the mark 65535",
+            (header::SIZE.., years::TYPE_128) => "item of type 128",
             _ => "feature",
         }
     }
 }
 
+/// The features of the passport's rest, each alone at its place.
+const OF_REST: [(Field, &str); 5] = [
+    (passport::ACCURACY, "accuracy not 0"),
+    (passport::SORTING, "special sorting"),
+    (passport::EPSG, "EPSG not 0"),
+    (passport::NORTH, "north offset"),
+    (passport::EAST, "east offset"),
+];
+
 /// Where the record starts that a place after the descriptor is in. The records before it have been accepted.
 fn record_start(sheet: &[u8], place: usize) -> usize {
-    let mut start = 452.min(place);
+    let mut start = START.min(place);
     while let Some(next) = next_record(sheet, start).filter(|&next| next > start && next <= place) {
         start = next;
     }
@@ -98,6 +113,6 @@ fn record_start(sheet: &[u8], place: usize) -> usize {
 }
 
 fn next_record(sheet: &[u8], start: usize) -> Option<usize> {
-    let total = sheet.get(start..)?.get(4..)?.first_chunk()?;
+    let total = sheet.get(header::TOTAL.at(start).range())?.first_chunk()?;
     start.checked_add(u32::from_le_bytes(*total) as usize)
 }

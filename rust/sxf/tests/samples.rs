@@ -1,9 +1,10 @@
 //! The wrapper over the sample sheets, and over what is left of them when a byte or a number is changed.
 use std::fs;
 use std::path::PathBuf;
+use sxf::fields::{passport, Field};
 use sxf::{
-    check, record_at, write, Coding, Head, Height, Item, Localisation, NewItem, NewPart, NewRecord, Number, Point, Reference,
-    Setting, Sheet, Table, TableRef, Text, Unit, Value,
+    check, record_at, row, write, Coding, Head, Height, Localisation, NewItem, NewPart, NewRecord, Number, Point, Reference,
+    Refusal, Setting, Sheet, Table, TableRef, Text, Unit, Value, Writer,
 };
 
 fn sample(name: &str) -> Vec<u8> {
@@ -15,14 +16,14 @@ const ACCEPTED: [&str; 9] = ["E", "P", "Q", "head", "labels", "heights", "items"
 
 /// With the number and place that samples/sheets.txt states.
 const REFUSED: [(&str, u32, usize); 8] = [
-    ("sum-wrong", 5, 12),
-    ("too-short", 2, 0),
-    ("not-sxf", 3, 0),
-    ("dirty-tail", 6, 28),
-    ("closing", 6, 493),
-    ("graphics", 9, 474),
-    ("left-over", 13, 488),
-    ("mark-small", 11, 476),
+    ("sum-wrong", Refusal::SUM, 12),
+    ("too-short", Refusal::SHORT, 0),
+    ("not-sxf", Refusal::NOT_SXF, 0),
+    ("dirty-tail", Refusal::TEXT, 28),
+    ("closing", Refusal::TEXT, 493),
+    ("graphics", Refusal::NOT_CARRIED, 474),
+    ("left-over", Refusal::LEFT_OVER, 488),
+    ("mark-small", Refusal::COUNT, 476),
 ];
 
 fn read(bytes: &[u8]) -> Sheet<'_> {
@@ -51,11 +52,8 @@ fn records_are_as_the_library_answers_them() {
         let sheet = read(&bytes);
         for record in sheet.records() {
             let asked = record_at(&bytes, Setting::Y2017, record.number() as u64).expect(name);
-            assert_eq!((record.place(), record.total_length()), (asked.place, asked.total_length));
-            assert_eq!(
-                (record.code(), record.number_in_group(), record.group_number()),
-                (asked.code, asked.number_in_group, asked.group_number)
-            );
+            assert_eq!((record.place(), record.total()), (asked.place, asked.total));
+            assert_eq!((record.code(), record.in_group(), record.group()), (asked.code, asked.in_group, asked.group));
             assert_eq!(
                 (record.reference(), record.generalisation(), record.word()),
                 (asked.reference, asked.generalisation, asked.word)
@@ -78,36 +76,57 @@ fn samples_are_written_back_from_their_tables() {
     }
 }
 
-fn copied(sheet: &Sheet<'_>) -> Vec<NewRecord> {
-    let new_part = |part: sxf::Part<'_>| NewPart {
-        points: part.points().collect(),
-        text: part.text().map_or(Vec::new(), |t| t.bytes.to_vec()),
-    };
-    let new_item = |item: Item<'_>| NewItem { code: item.code, kind: item.kind, scale: item.scale, bytes: item.bytes.to_vec() };
-    let new_record = |record: sxf::Record<'_>| NewRecord {
-        code: record.code(),
-        number_in_group: record.number_in_group(),
-        group_number: record.group_number(),
-        reference: record.reference(),
-        generalisation: record.generalisation(),
-        word: record.word(),
-        parts: record.parts().map(new_part).collect(),
-        items: record.items().map(new_item).collect(),
-    };
-    sheet.records().map(new_record).collect()
+/// The sheet written from its head and from each of its records, which go from what is read to what is written.
+fn written_from_records(sheet: &Sheet<'_>) -> Vec<u8> {
+    let mut writer = Writer::new(sheet.head().expect("a head")).expect("a head that was read");
+    for record in sheet.records().map(NewRecord::from) {
+        writer.push(&record).expect("a record that was read");
+    }
+    writer.write(Setting::Y2017).expect("a sheet that was read")
 }
 
 #[test]
 fn samples_are_written_back_from_typed_records() {
     for name in ACCEPTED {
         let bytes = sample(name);
-        let sheet = read(&bytes);
-        let mut writer = sxf::Writer::new(sheet.head().expect(name)).expect(name);
-        for record in copied(&sheet) {
-            writer.push(&record).expect(name);
-        }
-        assert!(writer.write(Setting::Y2017).as_ref() == Ok(&bytes), "{name}");
+        assert!(written_from_records(&read(&bytes)) == bytes, "{name}");
     }
+}
+
+/// Elements of every kind, NaNs of both signs among them, go from what is read to what is written bit for bit.
+#[test]
+fn records_that_were_read_keep_every_bit() {
+    let (short, long) = ([0, 1, 0x8000, 0xFFFF], [0, 0x7FFF_FFFF, 0x8000_0000, 0xFFFF_FFFF]);
+    let single = [0x8000_0000, 0x7F80_0000, 0x7F80_0001, 0xFFC0_BEEF];
+    let double = [1 << 63, 0x7FF0_0000_0000_0000, 0x7FF0_0000_0000_0001, 0xFFF8_0000_DEAD_BEEF];
+    let mut table = Table::default();
+    for (bits, planar, height) in [
+        (0, short, single),
+        (Reference::ELEMENT_SIZE, long, single),
+        (Reference::FLOATING, single, single),
+        (Reference::FLOATING | Reference::ELEMENT_SIZE, double, double),
+    ] {
+        for more in [0, Reference::THREE_DIMENSIONS] {
+            let reference = Reference::new(Localisation::Linear).with(bits | more);
+            let record = row::Record {
+                code: 9,
+                in_group: 8,
+                group: 7,
+                reference: reference.0.into(),
+                word: 6,
+                parts: 1,
+                ..Default::default()
+            };
+            table.numbers.extend(record.numbers());
+            table.numbers.extend(row::Part { points: 4, text_length: 0 }.numbers());
+            for (x, h) in planar.into_iter().zip(height) {
+                table.elements.extend(if more == 0 { vec![x, planar[3]] } else { vec![x, planar[3], h] });
+            }
+        }
+    }
+    let bytes = write(&Head::PLAIN, table.lend(), Setting::Y2017).expect("a sheet");
+    assert_eq!(read(&bytes).table(), table.lend());
+    assert!(written_from_records(&read(&bytes)) == bytes);
 }
 
 #[test]
@@ -124,13 +143,15 @@ fn the_head_is_told() {
 #[test]
 fn a_nan_corner_stays_its_bits() {
     let mut rest = *Head::PLAIN.rest;
-    rest[104 - 96 + 8..104 - 96 + 16].copy_from_slice(&0x7FF0_0000_0000_0001u64.to_le_bytes());
-    rest[104 - 96..104 - 96 + 8].copy_from_slice(&1.5f64.to_le_bytes());
+    let first = passport::in_rest(passport::CORNERS).place;
+    let corner = |number: usize| Field::new(first + 8 * number, 8).range();
+    rest[corner(0)].copy_from_slice(&1.5f64.to_le_bytes());
+    rest[corner(1)].copy_from_slice(&0x7FF0_0000_0000_0001u64.to_le_bytes());
     let bytes = write(&Head { rest: &rest, ..Head::PLAIN }, TableRef::default(), Setting::Y2017).expect("a sheet");
     let corners = read(&bytes).corners().expect("corners");
     assert_eq!(
         (corners.nan_at, corners.sw_x, corners.sw_y),
-        (Some(112), Number::Double(1.5), Number::NotNumber(0x7FF0_0000_0000_0001))
+        (Some(passport::CORNERS.place + 8), Number::Double(1.5), Number::NotNumber(0x7FF0_0000_0000_0001))
     );
 }
 
@@ -182,18 +203,19 @@ fn values_of_items_are_told() {
 fn texts_values_and_heights_stand_apart() {
     let plane = |n| Unit::DevicePoints.coordinate(Number::Whole(n));
     let point = |n: i64| Point { x: plane(n), y: plane(n + 1), height: Some(Height::new(Number::Single(0.5))) };
-    let reference = Reference::new(Localisation::Label).with(Reference::TEXT | Reference::THREE_DIMENSIONS);
+    let reference = Reference::new(Localisation::Label).with(Reference::TEXT_IN_METRIC | Reference::THREE_DIMENSIONS);
     let record = NewRecord::new(7, reference)
         .part(NewPart::new(vec![point(1), point(3)]).text("first"))
         .part(NewPart::new(vec![point(5)]).text("second"))
         .item(NewItem::text(1, Coding::Windows, b"third").expect("a text"))
         .item(NewItem::double(2, -0.0));
-    let mut writer = sxf::Writer::new(Head::PLAIN).expect("a plain head");
+    let mut writer = Writer::new(Head::PLAIN).expect("a plain head");
     for _ in 0..2 {
         writer.push(&record).expect("a record that fits");
     }
     let bytes = writer.write(Setting::Y1999).expect("a sheet");
-    assert_eq!(copied(&read(&bytes)), [record.clone(), record]);
+    let again: Vec<NewRecord> = read(&bytes).records().map(NewRecord::from).collect();
+    assert_eq!(again, [record.clone(), record]);
 }
 
 /// The coordinates of the sheet's unit, as the passport's flags and the byte at +236 say.
@@ -208,15 +230,17 @@ fn coordinates_are_in_the_sheets_unit() {
     ];
     for (flags, byte, unit) in units {
         let mut rest = *Head::PLAIN.rest;
-        (rest[0], rest[236 - 96]) = (flags, byte);
-        let mut writer = sxf::Writer::new(Head { rest: &rest, ..Head::PLAIN }).expect("a head");
+        rest[passport::in_rest(passport::FLAGS).place] = flags;
+        rest[passport::in_rest(passport::UNIT).place] = byte;
+        let mut writer = Writer::new(Head { rest: &rest, ..Head::PLAIN }).expect("a head");
         assert_eq!(writer.unit(), unit);
-        let at = unit.coordinate(Number::Whole(3));
-        let part = NewPart::new(vec![Point { x: at, y: at, height: None }]);
+        let three = unit.coordinate(Number::Whole(3));
+        let part = NewPart::new(vec![Point { x: three, y: three, height: None }]);
         writer.push(&NewRecord::new(0, Reference::new(Localisation::Point)).part(part.clone())).expect("a point that fits");
         let bytes = writer.write(Setting::Y1999).expect("a sheet");
-        assert_eq!(copied(&read(&bytes))[0].parts, [part]);
-        assert_eq!(read(&bytes).unit(), unit);
+        let sheet = read(&bytes);
+        assert_eq!(NewRecord::from(sheet.record(0).expect("a record")).parts, [part]);
+        assert_eq!(sheet.unit(), unit);
     }
 }
 
@@ -239,10 +263,10 @@ fn the_limit_is_the_librarys() {
 /// A count under the mark, and a table over the limit.
 #[test]
 fn many_points_are_written_with_the_mark() {
-    let table = |points: u64| Table {
-        numbers: vec![7, 0, 0, 0, 255, points, 1, 0, points, 0],
-        elements: vec![1; 2 * points as usize],
-        bytes: Vec::new(),
+    let table = |points: u64| {
+        let record = row::Record { code: 7, generalisation: 255, word: points, parts: 1, ..row::Record::default() }.numbers();
+        let numbers = [&record[..], &row::Part { points, text_length: 0 }.numbers()].concat();
+        Table { numbers, elements: vec![1; 2 * points as usize], bytes: Vec::new() }
     };
     let marked = table(70_000);
     let bytes = write(&Head::PLAIN, marked.lend(), Setting::Y2004).expect("a sheet");
@@ -252,9 +276,9 @@ fn many_points_are_written_with_the_mark() {
 }
 
 fn put_sum_right(sheet: &mut [u8]) {
-    sheet[12..16].fill(0);
+    sheet[passport::SUM.range()].fill(0);
     let sum: u32 = sheet.iter().map(|&b| u32::from(b)).sum();
-    sheet[12..16].copy_from_slice(&sum.to_le_bytes());
+    sheet[passport::SUM.range()].copy_from_slice(&sum.to_le_bytes());
 }
 
 fn walk(sheet: &Sheet<'_>) -> usize {
@@ -276,7 +300,7 @@ fn damaged_samples_are_refused_or_written_back() {
             for flip in [1, 2, 4, 8, 16, 32, 64, 128, 255] {
                 let mut damaged = bytes.clone();
                 damaged[place] ^= flip;
-                if place >= 16 && damaged.len() >= 16 {
+                if place >= passport::SUM.after() {
                     put_sum_right(&mut damaged);
                 }
                 sxf::years::of(&damaged).features.iter().for_each(|feature| assert!(!feature.name(&damaged).is_empty()));
@@ -284,6 +308,7 @@ fn damaged_samples_are_refused_or_written_back() {
                 walk(&sheet);
                 let again = write(&sheet.head().expect(name), sheet.table(), Setting::Y2017);
                 assert!(again.as_ref() == Ok(&damaged), "{name}, byte {place} ^ {flip}");
+                assert!(written_from_records(&sheet) == damaged, "{name}, byte {place} ^ {flip}, from its records");
             }
         }
     }

@@ -1,6 +1,8 @@
 //! Each feature of the document's list, alone in a sheet: where it is met, its year and its name.
+use sxf::fields::{descriptor, header, item, passport, START};
+use sxf::row::{self, ITEMS, POINTS, REFERENCE, ROW_WIDTH, WORD};
 use sxf::years::{self, Feature};
-use sxf::{write, Head, Setting, Table};
+use sxf::{write, Head, Reference, Setting, Table};
 
 fn features(sheet: &[u8]) -> Vec<(usize, u32, &'static str)> {
     let years = years::of(sheet);
@@ -12,71 +14,82 @@ fn features(sheet: &[u8]) -> Vec<(usize, u32, &'static str)> {
 
 #[test]
 fn features_of_the_head() {
-    for (place, byte, year, name) in [
-        (98, 3, 2006, "accuracy not 0"),
-        (99, 1, 2008, "special sorting"),
-        (100, 1, 2017, "EPSG not 0"),
-        (384, 1, 2004, "north offset"),
-        (392, 1, 2004, "east offset"),
+    for (field, byte, year, name) in [
+        (passport::ACCURACY, 3, 2006, "accuracy not 0"),
+        (passport::SORTING, 1, 2008, "special sorting"),
+        (passport::EPSG, 1, 2017, "EPSG not 0"),
+        (passport::NORTH, 1, 2004, "north offset"),
+        (passport::EAST, 1, 2004, "east offset"),
     ] {
         let mut rest = *Head::PLAIN.rest;
-        rest[place - 96] = byte;
+        rest[passport::in_rest(field).place] = byte;
         let sheet = write(&Head { rest: &rest, ..Head::PLAIN }, Table::default().lend(), Setting::Y2017).expect(name);
-        assert_eq!(features(&sheet), [(place, year, name)]);
+        assert_eq!(features(&sheet), [(field.place, year, name)]);
     }
     for (byte, name) in [(1, "automatic GUID"), (2, "edit date"), (3, "automatic GUID")] {
-        let head = Head { flags: &[3, 0, 0, byte], ..Head::PLAIN };
+        let head = Head { carried: &[3, 0, 0, byte], ..Head::PLAIN };
         let sheet = write(&head, Table::default().lend(), Setting::Y2017).expect(name);
-        assert_eq!(features(&sheet), [(447, 2017, name)]);
+        assert_eq!(features(&sheet), [(descriptor::KEEPING.place, 2017, name)]);
     }
 }
 
-/// A plain record of one point, 36 bytes at 452, and after it one with these reference bytes.
+/// The place of the second record, after one of a header and a point of 4 bytes.
+const SECOND: usize = START + header::SIZE + 4;
+
+/// The index of the second record's numbers.
+const SECOND_ROW: usize = row::row_size(1, 0);
+
+/// A record of one point without a bit set, and after it the same with these reference bytes.
 fn second(reference: u64) -> Table {
-    let numbers = vec![0, 0, 0, 2, 255, 0, 1, 0, 1, 0, 0, 0, 0, reference, 255, 0, 1, 0, 1, 0];
+    let record = row::Record { generalisation: 255, parts: 1, ..row::Record::default() }.numbers();
+    let part = row::Part { points: 1, text_length: 0 }.numbers();
+    let mut numbers = [&record[..], &part, &record, &part].concat();
+    numbers[REFERENCE] = 2;
+    numbers[SECOND_ROW + REFERENCE] = reference;
     Table { numbers, elements: vec![3, 4, 5, 6], bytes: Vec::new() }
 }
 
 #[test]
 fn features_of_the_reference_bytes() {
-    for (bit, place, year, name) in [
-        (4, 20, 2016, "multipolygon"),
-        (8, 21, 2015, "compressed graphics"),
-        (12, 21, 2008, "Unicode"),
-        (13, 21, 2014, "above all"),
-        (14, 21, 2014, "below all"),
-        (15, 21, 2017, "vertical alignment"),
-        (22, 22, 2004, "spline bits"),
-        (23, 22, 2004, "spline bits"),
+    for (bit, byte, year, name) in [
+        (Reference::MULTIPOLYGON, header::BYTE20, 2016, "multipolygon"),
+        (Reference::COMPRESSED_GRAPHICS, header::BYTE21, 2015, "compressed graphics"),
+        (Reference::UNICODE, header::BYTE21, 2008, "Unicode"),
+        (Reference::ABOVE_ALL, header::BYTE21, 2014, "above all"),
+        (Reference::BELOW_ALL, header::BYTE21, 2014, "below all"),
+        (Reference::VERTICAL_ALIGNMENT, header::BYTE21, 2017, "vertical alignment"),
+        (1 << 22, header::BYTE22, 2004, "spline bits"),
+        (1 << 23, header::BYTE22, 2004, "spline bits"),
     ] {
-        let sheet = write(&Head::PLAIN, second(1 << bit).lend(), Setting::Y2017).expect(name);
-        assert_eq!(features(&sheet), [(488 + place, year, name)], "bit {bit}");
+        let sheet = write(&Head::PLAIN, second(bit.into()).lend(), Setting::Y2017).expect(name);
+        assert_eq!(features(&sheet), [(byte.at(SECOND).place, year, name)], "bit {bit:#x}");
     }
 }
 
 #[test]
 fn the_mark_and_type_128() {
     let mut marked = second(0);
-    marked.numbers[15] = 65_535;
-    marked.numbers[18] = 65_535;
+    marked.numbers[SECOND_ROW + WORD] = 65_535;
+    marked.numbers[SECOND_ROW + ROW_WIDTH + POINTS] = 65_535;
     marked.elements.resize(2 + 2 * 65_535, 0);
     let sheet = write(&Head::PLAIN, marked.lend(), Setting::Y2017).expect("the mark");
-    assert_eq!(features(&sheet), [(488 + 30, 2004, "the mark 65535")]);
+    assert_eq!(features(&sheet), [(header::POINTS.at(SECOND).place, 2004, "the mark 65535")]);
 
-    let mut item = second(0x200);
-    item.numbers[17] = 1;
-    item.numbers.extend([1, 128, 0xFF, 2]);
-    item.bytes.extend([0, 0]);
-    let sheet = write(&Head::PLAIN, item.lend(), Setting::Y2017).expect("an item");
-    assert_eq!(features(&sheet), [(488 + 36 + 2, 2012, "item of type 128")]);
+    let mut long = second(Reference::SEMANTICS.into());
+    long.numbers[SECOND_ROW + ITEMS] = 1;
+    long.numbers.extend(row::Item { code: 1, kind: 128, scale: 0xFF, length: 2 }.numbers());
+    long.bytes.extend([0, 0]);
+    let sheet = write(&Head::PLAIN, long.lend(), Setting::Y2017).expect("an item");
+    let after_its_point = SECOND + header::SIZE + 4;
+    assert_eq!(features(&sheet), [(item::TYPE.at(after_its_point).place, 2012, "item of type 128")]);
 }
 
 /// A binding vector is dated, and then not carried.
 #[test]
 fn a_binding_vector_is_named() {
     let mut sheet = write(&Head::PLAIN, second(0).lend(), Setting::Y1999).expect("a sheet");
-    sheet[488 + 21] = 8;
-    sheet[12] += 8;
+    sheet[header::BYTE21.at(SECOND).place] = 8;
+    sheet[passport::SUM.place] += 8;
     let years = years::of(&sheet);
     let told: Vec<_> = years.features.iter().map(|f| (f.place, f.year, f.name(&sheet))).collect();
     assert_eq!(told, [(509, 2008, "binding vector")]);

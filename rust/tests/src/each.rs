@@ -3,12 +3,15 @@
 
 use crate::heads::{head, SETTINGS};
 use crate::judge::{Care, Judge};
-use crate::known::sheet_p;
+use crate::known::{sheet_p, METRIC};
 use crate::numbers::Numbers;
 use crate::sheets::{put_sum_right, Made};
 use crate::table_damage::EDGES;
 use crate::tables::closing_zeros;
 use second::{Head, Table};
+use sxf_sys::fields::{descriptor, header, passport, Field, START};
+use sxf_sys::reference::{SEMANTICS, TEXT_IN_METRIC};
+use sxf_sys::row;
 
 /// Each bit of a sheet turned, alone, and the sum put right unless it is the
 /// sum's bit.
@@ -17,7 +20,7 @@ pub fn bits(judge: &mut Judge, made: &Made, year: u32, numbers: &mut Numbers) {
     for at in 0..sheet.len() {
         for bit in 0..8 {
             sheet[at] ^= 1 << bit;
-            if !(12..16).contains(&at) {
+            if !passport::SUM.range().contains(&at) {
                 put_sum_right(&mut sheet);
             }
             let before = judge.disagreements.len();
@@ -84,17 +87,10 @@ fn writes(judge: &mut Judge, head: &Head, table: &Table, years: &[u32], numbers:
     }
 }
 
-const ALL: [(u32, Care); 9] = [
-    (1999, Care::Check),
-    (2004, Care::Check),
-    (2006, Care::Check),
-    (2008, Care::Check),
-    (2012, Care::Check),
-    (2014, Care::Check),
-    (2015, Care::Check),
-    (2016, Care::Check),
-    (2017, Care::Once),
-];
+/// All settings; the last has all features, and is asked more.
+fn all() -> [(u32, Care); 9] {
+    SETTINGS.map(|year| (year, if year == 2017 { Care::Once } else { Care::Check }))
+}
 
 /// One value of a byte, in each byte of the heads, in each reference byte
 /// with all values of another, as an item's type with all scales, and as
@@ -109,26 +105,29 @@ pub fn byte(judge: &mut Judge, value: u8, numbers: &mut Numbers) {
 
 fn heads(judge: &mut Judge, value: u8, numbers: &mut Numbers) {
     let plain = sheet_p();
-    for place in (0..12).chain(16..452) {
+    for place in (0..passport::SUM.place).chain(passport::SUM.after()..START) {
         let mut sheet = plain.clone();
         sheet[place] = value;
-        // The unit's byte tells nothing unless the sheet is real.
-        match (place, numbers.below(3)) {
-            (236, 0) => sheet[96] |= 0x18,
-            (236, 1) => sheet[315] = 0x80,
-            (236, _) => sheet[98] = 1,
-            _ => {}
+        // The unit's byte tells nothing unless the sheet is real: by its
+        // flags, by a negative resolution, or by its accuracy.
+        let real = numbers.below(3);
+        if place == passport::UNIT.place {
+            match real {
+                0 => sheet[passport::FLAGS.place] |= 0x18,
+                1 => sheet[passport::RESOLUTION.after() - 1] = 0x80,
+                _ => sheet[passport::ACCURACY.place] = 1,
+            }
         }
         put_sum_right(&mut sheet);
         let before = judge.disagreements.len();
-        judge.reads_in_place(&sheet, &ALL, numbers);
+        judge.reads_in_place(&sheet, &all(), numbers);
         judge.context(before, || format!("P with {value} at {place}"));
         if let Ok(reading) = second::read(&plain, 1999) {
             let mut head = reading.head;
-            if (96..400).contains(&place) {
-                head.rest[place - 96] = value;
-            } else if (444..448).contains(&place) {
-                head.flags[place - 444] = value;
+            if passport::REST.range().contains(&place) {
+                head.rest[place - passport::REST.place] = value;
+            } else if descriptor::CARRIED.range().contains(&place) {
+                head.carried[place - descriptor::CARRIED.place] = value;
             } else {
                 continue;
             }
@@ -143,31 +142,19 @@ fn references(judge: &mut Judge, value: u8, numbers: &mut Numbers) {
     for other in 0..=255 {
         for [low, middle, high] in [[value, 0, other], [value, other, 0], [3, value, other], [5, other, value]] {
             let reference = u64::from(u32::from_le_bytes([low, middle, high, 0]));
-            let mut table = Table { numbers: vec![1, 2, 3, reference, 4, 5, 1, 0, 0, 0], ..Table::default() };
-            if middle & 2 != 0 {
-                table.numbers[7] = 1;
-                table.numbers.extend_from_slice(&[6, 2, 0xFF, 2]);
-                table.bytes.extend_from_slice(&[7, 8]);
-            }
+            let item = row::Item { code: 6, kind: 2, scale: 0xFF, length: 2 };
+            let (items, bytes) = if reference & SEMANTICS != 0 { (&[item][..], vec![7, 8]) } else { (&[][..], vec![]) };
+            let table = without_points(reference, 0, items, bytes);
             let years = [numbers.pick(&SETTINGS), numbers.pick(&SETTINGS)];
             let before = judge.disagreements.len();
             writes(judge, &plain_head(), &table, &years, numbers);
             judge.context(before, || format!("a row with reference {reference:#x}"));
 
-            let mut sheet = sheet_p()[..484].to_vec();
-            sheet[472..475].copy_from_slice(&[low, middle, high]);
-            sheet[482] = 0;
-            if high & 8 != 0 {
-                sheet.extend_from_slice(&[0, 0]);
-            }
-            sheet[460] = (sheet.len() - 484) as u8;
-            if middle & 2 != 0 {
-                sheet.extend_from_slice(&[6, 0, 2, 0xFF, 7, 8]);
-            }
-            sheet[456] = (sheet.len() - 452) as u8;
-            put_sum_right(&mut sheet);
+            let metric: &[u8] = if reference & TEXT_IN_METRIC != 0 { &[0, 0] } else { &[] };
+            let semantics: &[u8] = if reference & SEMANTICS != 0 { &[6, 0, 2, 0xFF, 7, 8] } else { &[] };
+            let sheet = sheet_of(reference, metric, semantics);
             let before = judge.disagreements.len();
-            judge.reads_in_place(&sheet, &ALL, numbers);
+            judge.reads_in_place(&sheet, &all(), numbers);
             judge.context(before, || format!("a record with reference {reference:#x}"));
         }
     }
@@ -189,54 +176,32 @@ fn items(judge: &mut Judge, kind: u8, numbers: &mut Numbers) {
 /// A part's text and a type 128 value of this length.
 fn lengths(judge: &mut Judge, length: u8, numbers: &mut Numbers) {
     item(judge, 128, 255, u64::from(length), numbers);
-    let table = Table {
-        numbers: vec![1, 2, 3, 0x8_0003, 4, 5, 1, 0, 0, u64::from(length)],
-        bytes: vec![9; usize::from(length)],
-        ..Table::default()
-    };
-    both(judge, &table, &[2004, 2017], numbers);
+    let bytes = vec![9; usize::from(length)];
+    let table = without_points(TEXT_IN_METRIC | LABEL, u64::from(length), &[], bytes.clone());
+    let metric = [&[length], &bytes[..], &[0]].concat();
+    both(judge, &table, sheet_of(TEXT_IN_METRIC | LABEL, &metric, &[]), &[2004, 2017], numbers);
 }
 
 fn item(judge: &mut Judge, kind: u8, scale: u8, length: u64, numbers: &mut Numbers) {
-    let row = [1, 2, 3, 0x200, 4, 5, 1, 1, 0, 0];
-    let item = [6, u64::from(kind), u64::from(scale), length];
     let mut bytes = vec![9; length as usize];
     let text = bytes.len().saturating_sub(closing_zeros(u64::from(kind)));
     bytes[text..].fill(0);
-    let table = Table { numbers: [&row[..], &item].concat(), elements: Vec::new(), bytes };
-    both(judge, &table, &[2008, 2017], numbers);
+    let item = row::Item { code: 6, kind: kind.into(), scale: scale.into(), length };
+    let table = without_points(SEMANTICS, 0, &[item], bytes.clone());
+    let long_length = if kind == 128 { (length as u32).to_le_bytes().to_vec() } else { Vec::new() };
+    let semantics = [&[6, 0, kind, scale], &long_length[..], &bytes].concat();
+    both(judge, &table, sheet_of(SEMANTICS, &[], &semantics), &[2008, 2017], numbers);
 }
 
-/// Writes a table of one record without points, and reads the same as it
-/// would be written if nothing were refused.
-fn both(judge: &mut Judge, table: &Table, years: &[u32], numbers: &mut Numbers) {
+/// Writes a table, and reads the sheet that it would be written to if nothing
+/// were refused.
+fn both(judge: &mut Judge, table: &Table, mut sheet: Vec<u8>, years: &[u32], numbers: &mut Numbers) {
     let before = judge.disagreements.len();
     writes(judge, &plain_head(), table, years, numbers);
-
-    let mut sheet = sheet_p()[..484].to_vec();
-    sheet[472..475].copy_from_slice(&table.numbers[3].to_le_bytes()[..3]);
-    sheet[482] = 0;
-    if let Some(item) = table.numbers.get(10..14) {
-        sheet[460] = 0;
-        sheet.extend_from_slice(&[item[0] as u8, 0, item[1] as u8, item[2] as u8]);
-        if item[1] == 128 {
-            sheet.extend_from_slice(&(item[3] as u32).to_le_bytes());
-        }
-        sheet.extend_from_slice(&table.bytes);
-    } else {
-        sheet.push(table.bytes.len() as u8);
-        sheet.extend_from_slice(&table.bytes);
-        sheet.push(0);
-        let metric = sheet.len() as u32 - 484;
-        sheet[460..464].copy_from_slice(&metric.to_le_bytes());
-    }
-    let total = sheet.len() as u32 - 452;
-    sheet[456..460].copy_from_slice(&total.to_le_bytes());
-    put_sum_right(&mut sheet);
     for &year in years {
         judge.reads_in_place(&sheet, &[(year, Care::Once)], numbers);
     }
-    // And not closed, if it was.
+    // Once more with another last byte, so that no text or value is closed.
     if let Some(last) = sheet.last_mut() {
         *last ^= 1;
     }
@@ -245,11 +210,43 @@ fn both(judge: &mut Judge, table: &Table, years: &[u32], numbers: &mut Numbers) 
     judge.context(before, || format!("{:?} and its sheet", table.numbers));
 }
 
-/// A head with nothing in it.
+/// The localisation that may have a text.
+const LABEL: u64 = 3;
+
+/// A table of one record of one part without points, with a text of this
+/// length or items.
+fn without_points(reference: u64, text_length: u64, items: &[row::Item], bytes: Vec<u8>) -> Table {
+    let count = items.len() as u64;
+    let record = row::Record { code: 1, in_group: 2, group: 3, reference, generalisation: 4, word: 5, parts: 1, items: count };
+    let part = row::Part { points: 0, text_length };
+    let mut numbers = [&record.numbers()[..], &part.numbers()].concat();
+    numbers.extend(items.iter().flat_map(|item| item.numbers()));
+    Table { numbers, elements: Vec::new(), bytes }
+}
+
+/// Sheet P with another record of no points, this metric and this semantics.
+fn sheet_of(reference: u64, metric: &[u8], semantics: &[u8]) -> Vec<u8> {
+    let mut sheet = sheet_p()[..METRIC].to_vec();
+    let total = header::SIZE + metric.len() + semantics.len();
+    let mut put = |field: Field, number: u64| {
+        let field = field.at(START);
+        sheet[field.range()].copy_from_slice(&number.to_le_bytes()[..field.width]);
+    };
+    put(header::TOTAL, total as u64);
+    put(header::METRIC, metric.len() as u64);
+    put(header::REFERENCE, reference);
+    put(header::POINTS, 0);
+    sheet.extend_from_slice(metric);
+    sheet.extend_from_slice(semantics);
+    put_sum_right(&mut sheet);
+    sheet
+}
+
+/// A head that has only what it must in the rest and the carried bytes.
 fn plain_head() -> Head {
     let mut head = head(&mut Numbers::of_case(0, 0, 0), 1999);
-    head.rest = [0; 304];
-    head.rest[0] = 3;
-    head.flags = [3, 0, 0, 0];
+    head.rest = [0; passport::REST.width];
+    head.rest[passport::in_rest(passport::FLAGS).place] = 3;
+    head.carried = [3, 0, 0, 0];
     head
 }

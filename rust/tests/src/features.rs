@@ -1,8 +1,12 @@
 //! What accepted sheets and tables have in them, so that no feature of
 //! document 01 goes without being accepted.
 
-use crate::tables::row_numbers;
+use crate::tables::{has_text, rows, Row, SPLINE_BIT_6, SPLINE_BIT_7};
 use second::{Head, Table};
+use sxf_sys::fields::{descriptor, passport, Field};
+use sxf_sys::reference as bits;
+use sxf_sys::row::{self, POINTS};
+use sxf_sys::MARK;
 
 /// What is in the records of a table.
 struct Facts<'a> {
@@ -10,15 +14,21 @@ struct Facts<'a> {
     records: u64,
     /// A bit for each localisation.
     localisations: u64,
-    /// A bit for each width and dimension, by size, floating and dimension.
+    /// A bit for each shape of points, which the bits of element size,
+    /// floating and three dimensions number from 0 to 7.
     shapes: u64,
     /// All bits that some reference has.
     bits: u64,
+    /// The types of items.
     types: [bool; 256],
+    /// Bit 0 for one part, bit 1 for several, bit 2 for as many as can be.
     parts: u64,
     marked: bool,
+    /// A later part has more points than two bytes count.
     far: bool,
+    /// A part has no points.
     pointless: bool,
+    /// The lengths of texts.
     texts: [bool; 256],
 }
 
@@ -43,17 +53,17 @@ const FEATURES: [Feature; 66] = [
     ("12 bytes, large", |facts| facts.shapes & 32 != 0),
     ("12 bytes, floating", |facts| facts.shapes & 64 != 0),
     ("24 bytes", |facts| facts.shapes & 128 != 0),
-    ("multipolygon", |facts| facts.bits & 1 << 4 != 0),
-    ("compressed graphics", |facts| facts.bits & 1 << 8 != 0),
-    ("semantics", |facts| facts.bits & 1 << 9 != 0),
-    ("Unicode", |facts| facts.bits & 1 << 12 != 0),
-    ("above all", |facts| facts.bits & 1 << 13 != 0),
-    ("below all", |facts| facts.bits & 1 << 14 != 0),
-    ("vertical alignment", |facts| facts.bits & 1 << 15 != 0),
-    ("text", |facts| facts.bits & 1 << 19 != 0),
-    ("scalable", |facts| facts.bits & 1 << 21 != 0),
-    ("spline, bit 6", |facts| facts.bits & 1 << 22 != 0),
-    ("spline, bit 7", |facts| facts.bits & 1 << 23 != 0),
+    ("multipolygon", |facts| facts.bits & bits::MULTIPOLYGON != 0),
+    ("compressed graphics", |facts| facts.bits & bits::COMPRESSED_GRAPHICS != 0),
+    ("semantics", |facts| facts.bits & bits::SEMANTICS != 0),
+    ("Unicode", |facts| facts.bits & bits::UNICODE != 0),
+    ("above all", |facts| facts.bits & bits::ABOVE_ALL != 0),
+    ("below all", |facts| facts.bits & bits::BELOW_ALL != 0),
+    ("vertical alignment", |facts| facts.bits & bits::VERTICAL_ALIGNMENT != 0),
+    ("text", |facts| facts.bits & bits::TEXT_IN_METRIC != 0),
+    ("scalable", |facts| facts.bits & bits::SCALABLE != 0),
+    ("spline, bit 6", |facts| facts.bits & SPLINE_BIT_6 != 0),
+    ("spline, bit 7", |facts| facts.bits & SPLINE_BIT_7 != 0),
     ("empty text", |facts| facts.texts[0]),
     ("text of 255", |facts| facts.texts[255]),
     ("type 0", |facts| facts.types[0]),
@@ -70,23 +80,23 @@ const FEATURES: [Feature; 66] = [
     ("no points", |facts| facts.pointless),
     ("the mark", |facts| facts.marked),
     ("later part over 65535", |facts| facts.far),
-    ("real", |facts| facts.head.rest[0] & 0x18 != 0),
-    ("table 5", |facts| facts.head.rest[0] & 0x80 != 0),
-    ("label coding 0", |facts| facts.head.rest[1] == 0),
-    ("label coding 2", |facts| facts.head.rest[1] == 2),
-    ("accuracy 1", |facts| facts.head.rest[2] == 1),
-    ("accuracy 3", |facts| facts.head.rest[2] == 3),
-    ("special sorting", |facts| facts.head.rest[3] == 1),
-    ("EPSG", |facts| facts.head.rest[4..8] != [0; 4]),
-    ("north offset", |facts| facts.head.rest[288..296] != [0; 8]),
-    ("east offset", |facts| facts.head.rest[296..] != [0; 8]),
-    ("state, bit 2", |facts| facts.head.flags[0] & 0x04 != 0),
-    ("state, bits 3-4", |facts| facts.head.flags[0] & 0x18 != 0),
-    ("state, bit 7", |facts| facts.head.flags[0] & 0x80 != 0),
-    ("secrecy 0", |facts| facts.head.flags[2] == 0),
-    ("secrecy 5", |facts| facts.head.flags[2] == 5),
-    ("automatic GUID", |facts| facts.head.flags[3] & 1 != 0),
-    ("edit date", |facts| facts.head.flags[3] & 2 != 0),
+    ("real", |facts| facts.rest(passport::FLAGS) & 0x18 != 0),
+    ("table 5", |facts| facts.rest(passport::FLAGS) & 0x80 != 0),
+    ("label coding 0", |facts| facts.rest(passport::LABELS) == 0),
+    ("label coding 2", |facts| facts.rest(passport::LABELS) == 2),
+    ("accuracy 1", |facts| facts.rest(passport::ACCURACY) == 1),
+    ("accuracy 3", |facts| facts.rest(passport::ACCURACY) == 3),
+    ("special sorting", |facts| facts.rest(passport::SORTING) == 1),
+    ("EPSG", |facts| facts.rest(passport::EPSG) != 0),
+    ("north offset", |facts| facts.rest(passport::NORTH) != 0),
+    ("east offset", |facts| facts.rest(passport::EAST) != 0),
+    ("state, bit 2", |facts| facts.carried(descriptor::FLAGS) & 0x04 != 0),
+    ("state, bits 3-4", |facts| facts.carried(descriptor::FLAGS) & 0x18 != 0),
+    ("state, bit 7", |facts| facts.carried(descriptor::FLAGS) & 0x80 != 0),
+    ("secrecy 0", |facts| facts.carried(descriptor::SECRECY) == 0),
+    ("secrecy 5", |facts| facts.carried(descriptor::SECRECY) == 5),
+    ("automatic GUID", |facts| facts.carried(descriptor::KEEPING) & 1 != 0),
+    ("edit date", |facts| facts.carried(descriptor::KEEPING) & 2 != 0),
     ("no date", |facts| facts.head.date.is_empty()),
     ("date of 11", |facts| facts.head.date.len() == 11),
     ("designation of 31", |facts| facts.head.designation.len() == 31),
@@ -121,41 +131,52 @@ fn facts<'a>(head: &'a Head, table: &Table) -> Facts<'a> {
         pointless: false,
         texts: [false; 256],
     };
-    let mut row = 0;
-    while row < table.numbers.len() {
-        let next = row + row_numbers(table, row);
-        facts.record(&table.numbers[row..next]);
-        row = next;
-    }
+    rows(table).for_each(|row| facts.record(&row));
     facts
 }
 
 impl Facts<'_> {
-    fn record(&mut self, row: &[u64]) {
-        let reference = row[3];
+    /// The number that stands in a field of the rest.
+    fn rest(&self, field: Field) -> u64 {
+        number(&self.head.rest[passport::in_rest(field).range()])
+    }
+
+    /// The number that stands in a field of the carried bytes.
+    fn carried(&self, field: Field) -> u64 {
+        number(&self.head.carried[descriptor::in_carried(field).range()])
+    }
+
+    fn record(&mut self, row: &Row) {
+        let reference = row.record.reference;
         self.records += 1;
-        self.localisations |= 1 << (reference & 0x0F);
+        self.localisations |= 1 << (reference & bits::LOCALISATION);
         self.bits |= reference;
-        let (parts, items) = row[8..].split_at(2 * row[6] as usize);
-        self.parts |= match row[6] {
+        self.parts |= match row.record.parts {
             1 => 1,
             65536 => 6,
             _ => 2,
         };
-        self.marked |= parts[0] >= 65535;
-        for part in parts.chunks_exact(2) {
-            self.pointless |= part[0] == 0;
-            if part[0] != 0 {
-                let shape = reference >> 10 & 1 | reference >> 17 & 2 | reference >> 15 & 4;
+        self.marked |= row.parts[0][POINTS] >= MARK;
+        let has = |bit: u64| u64::from(reference & bit != 0);
+        let shape = has(bits::ELEMENT_SIZE) | has(bits::FLOATING) << 1 | has(bits::THREE_DIMENSIONS) << 2;
+        for part in row.parts {
+            let part = row::Part::of(part);
+            self.pointless |= part.points == 0;
+            if part.points != 0 {
                 self.shapes |= 1 << shape;
             }
-            if reference >> 19 & 1 == 1 {
-                self.texts[part[1] as usize] = true;
+            if has_text(reference) {
+                self.texts[part.text_length as usize] = true;
             }
         }
-        self.far |= parts[2..].chunks_exact(2).any(|part| part[0] > 65535);
-        for item in items.chunks_exact(4) {
-            self.types[item[1] as usize] = true;
+        self.far |= row.parts[1..].iter().any(|part| part[POINTS] > MARK);
+        for item in row.items {
+            self.types[row::Item::of(item).kind as usize] = true;
         }
     }
+}
+
+/// The number of at most eight bytes, the lowest first.
+fn number(bytes: &[u8]) -> u64 {
+    bytes.iter().rev().fold(0, |number, &byte| number << 8 | u64::from(byte))
 }

@@ -2,9 +2,10 @@
 
 use crate::numbers::Numbers;
 use second::Head;
+use sxf_sys::fields::{descriptor, passport, Carried, Field, Rest};
+use sxf_sys::years;
 
-/// The nine settings.
-pub const SETTINGS: [u32; 9] = [1999, 2004, 2006, 2008, 2012, 2014, 2015, 2016, 2017];
+pub use sxf_sys::years::SETTINGS;
 
 /// Years that are no setting.
 pub const NO_SETTINGS: [u32; 7] = [0, 1998, 2000, 2005, 2018, 0x8000_07E1, u32::MAX];
@@ -39,53 +40,59 @@ pub fn text(numbers: &mut Numbers, most: usize) -> Vec<u8> {
 /// later stands in one head of three.
 pub fn head(numbers: &mut Numbers, year: u32) -> Head {
     Head {
-        date: text(numbers, 11),
-        designation: text(numbers, 31),
+        date: text(numbers, most(passport::DATE)),
+        designation: text(numbers, most(passport::DESIGNATION)),
         scale: numbers.of_bits(32) as u32,
-        title: text(numbers, 31),
+        title: text(numbers, most(passport::TITLE)),
         rest: rest(numbers, year),
-        designation2: text(numbers, 31),
-        flags: flags(numbers, year),
+        designation2: text(numbers, most(descriptor::DESIGNATION)),
+        carried: carried(numbers, year),
     }
 }
 
-/// Whether to use a feature of `feature` in what is made for `year`.
+/// The longest text that a field holds: a zero must follow it.
+pub fn most(field: Field) -> usize {
+    field.width - 1
+}
+
+/// Whether what is made for `year` uses a feature that came in the year
+/// `feature`.
 pub fn uses(numbers: &mut Numbers, feature: u32, year: u32) -> bool {
     feature <= year && numbers.chance(1, 3)
 }
 
-fn rest(numbers: &mut Numbers, year: u32) -> [u8; 304] {
-    let mut rest = [0; 304];
+fn rest(numbers: &mut Numbers, year: u32) -> Rest {
+    let mut rest = [0; passport::REST.width];
     let set = numbers.pick(&[0, 1, 16]);
     for byte in &mut rest {
         if numbers.chance(set, 16) {
             *byte = numbers.byte();
         }
     }
-    rest[0] = 3 | numbers.pick(&[0, 0x18]) | numbers.pick(&[0, 0x80]);
-    rest[1] = numbers.below(3) as u8;
-    rest[2] = 0;
-    if uses(numbers, 2006, year) {
-        rest[2] = numbers.below(4) as u8;
-    }
-    rest[3] = u8::from(uses(numbers, 2008, year));
-    let epsg = if uses(numbers, 2017, year) { numbers.of_bits(32) as u32 } else { 0 };
-    put(&mut rest, 100, &epsg.to_le_bytes());
+    let flags = 3 | numbers.pick(&[0, 0x18]) | numbers.pick(&[0, 0x80]);
+    put(&mut rest, passport::FLAGS, &[flags]);
+    put(&mut rest, passport::LABELS, &[numbers.below(3) as u8]);
+    let accuracy = if uses(numbers, years::ACCURACY_SET, year) { numbers.below(4) as u8 } else { 0 };
+    put(&mut rest, passport::ACCURACY, &[accuracy]);
+    let sorting = u8::from(uses(numbers, years::SPECIAL_SORTING, year));
+    put(&mut rest, passport::SORTING, &[sorting]);
+    let epsg = if uses(numbers, years::EPSG_SET, year) { numbers.of_bits(32) as u32 } else { 0 };
+    put(&mut rest, passport::EPSG, &epsg.to_le_bytes());
     if numbers.chance(1, 2) {
         corners(numbers, &mut rest);
     }
     let unit = numbers.byte();
-    rest[236 - 96] = numbers.pick(&[0, 64, 65, unit]);
+    put(&mut rest, passport::UNIT, &[numbers.pick(&[0, 64, 65, unit])]);
     let resolution = numbers.of_bits(32) as u32;
-    put(&mut rest, 312, &resolution.to_le_bytes());
-    for at in [384, 392] {
-        let offset = if uses(numbers, 2004, year) { numbers.of_bits(64) } else { 0 };
-        put(&mut rest, at, &offset.to_le_bytes());
+    put(&mut rest, passport::RESOLUTION, &resolution.to_le_bytes());
+    for (field, since) in [(passport::NORTH, years::NORTH_OFFSET), (passport::EAST, years::EAST_OFFSET)] {
+        let offset = if uses(numbers, since, year) { numbers.of_bits(64) } else { 0 };
+        put(&mut rest, field, &offset.to_le_bytes());
     }
     rest
 }
 
-fn corners(numbers: &mut Numbers, rest: &mut [u8; 304]) {
+fn corners(numbers: &mut Numbers, rest: &mut Rest) {
     for corner in 0..8 {
         let any = numbers.any();
         let bits = match numbers.below(3) {
@@ -94,20 +101,19 @@ fn corners(numbers: &mut Numbers, rest: &mut [u8; 304]) {
             _ => any,
         };
         if numbers.chance(1, 2) {
-            put(rest, 104 + 8 * corner, &bits.to_le_bytes());
+            put(rest, Field::new(passport::CORNERS.place + 8 * corner, 8), &bits.to_le_bytes());
         }
     }
 }
 
-fn flags(numbers: &mut Numbers, year: u32) -> [u8; 4] {
-    let state = 3 | numbers.pick(&[0, 0x18]) | numbers.byte() & 0x84;
-    let guid = u8::from(uses(numbers, 2017, year));
-    let edited = u8::from(uses(numbers, 2017, year));
-    [state, numbers.below(3) as u8, numbers.below(6) as u8, guid | edited << 1]
+fn carried(numbers: &mut Numbers, year: u32) -> Carried {
+    let flags = 3 | numbers.pick(&[0, 0x18]) | numbers.byte() & 0x84;
+    let guid = u8::from(uses(numbers, years::AUTOMATIC_GUID, year));
+    let edited = u8::from(uses(numbers, years::EDIT_DATE, year));
+    [flags, numbers.below(3) as u8, numbers.below(6) as u8, guid | edited << 1]
 }
 
-/// Stores bytes at their place in the sheet.
-fn put(rest: &mut [u8; 304], place: usize, bytes: &[u8]) {
-    let at = place - 96;
-    rest[at..at + bytes.len()].copy_from_slice(bytes);
+/// Stores the bytes of a field.
+fn put(rest: &mut Rest, field: Field, bytes: &[u8]) {
+    rest[passport::in_rest(field).range()].copy_from_slice(bytes);
 }

@@ -1,66 +1,71 @@
 //! Document 01's own sheets, with the answers it gives for them. Both the
 //! archive and `second` must give these.
 
+use crate::archive;
 use crate::judge::{Care, Judge};
 use crate::numbers::Numbers;
-use crate::raw;
 use second::Refusal;
+use sxf_sys::fields::{descriptor, header, passport, Field, START};
+use sxf_sys::refusals::{ASK, OK, SHORT, SUM, TEXT, TOO_NEW};
+use sxf_sys::years;
 
 /// How many there are.
 pub const CASES: u64 = 13;
 
+/// Where the metric of the first record starts.
+pub const METRIC: usize = START + header::SIZE;
+
 fn sheet_e() -> Vec<u8> {
-    let mut sheet = vec![0; 452];
-    put(&mut sheet, 0, 0x0046_5853);
-    put(&mut sheet, 4, 400);
-    put(&mut sheet, 8, 0x0004_0000);
-    put(&mut sheet, 12, 795);
-    sheet[28] = b'A';
-    sheet[96] = 3;
-    put(&mut sheet, 400, 0x0054_4144);
-    put(&mut sheet, 404, 52);
-    sheet[408] = b'A';
-    sheet[444] = 3;
+    let mut sheet = vec![0; START];
+    put(&mut sheet, passport::IDENTIFIER, passport::IDENTIFIER_IS);
+    put(&mut sheet, passport::OWN_LENGTH, passport::OWN_LENGTH_IS);
+    put(&mut sheet, passport::EDITION, passport::EDITION_IS);
+    put(&mut sheet, passport::SUM, 795);
+    sheet[passport::DESIGNATION.place] = b'A';
+    sheet[passport::FLAGS.place] = 3;
+    put(&mut sheet, descriptor::IDENTIFIER, descriptor::IDENTIFIER_IS);
+    put(&mut sheet, descriptor::OWN_LENGTH, descriptor::OWN_LENGTH_IS);
+    sheet[descriptor::DESIGNATION.place] = b'A';
+    sheet[descriptor::FLAGS.place] = 3;
     sheet
 }
 
 /// Sheet P of document 01: one point, 3 and 4.
 pub fn sheet_p() -> Vec<u8> {
     let mut sheet = sheet_e();
-    put(&mut sheet, 12, 1865);
-    put(&mut sheet, 440, 1);
-    sheet.resize(488, 0);
-    put(&mut sheet, 452, 0x7FFF_7FFF);
-    put(&mut sheet, 456, 36);
-    put(&mut sheet, 460, 4);
-    sheet[472] = 2;
-    sheet[475] = 255;
-    sheet[482] = 1;
-    sheet[484] = 3;
-    sheet[486] = 4;
+    put(&mut sheet, passport::SUM, 1865);
+    put(&mut sheet, descriptor::COUNT, 1);
+    sheet.resize(METRIC, 0);
+    put(&mut sheet, header::IDENTIFIER.at(START), header::IDENTIFIER_IS);
+    put(&mut sheet, header::TOTAL.at(START), 36);
+    put(&mut sheet, header::METRIC.at(START), 4);
+    sheet[header::BYTE20.at(START).place] = 2;
+    sheet[header::GENERALISATION.at(START).place] = 255;
+    sheet[header::POINTS.at(START).place] = 1;
+    sheet.extend_from_slice(&[3, 0, 4, 0]);
     sheet
 }
 
 fn sheet_q() -> Vec<u8> {
     let mut sheet = sheet_p();
-    put(&mut sheet, 12, 2384);
-    put(&mut sheet, 456, 42);
-    sheet[473] = 2;
+    put(&mut sheet, passport::SUM, 2384);
+    put(&mut sheet, header::TOTAL.at(START), 42);
+    sheet[header::BYTE21.at(START).place] = 2;
     sheet.extend_from_slice(&[0x01, 0x00, 0x02, 0xFF, 0xF9, 0x04]);
     sheet
 }
 
-fn put(sheet: &mut [u8], at: usize, number: u32) {
-    sheet[at..at + 4].copy_from_slice(&number.to_le_bytes());
+fn put(sheet: &mut [u8], field: Field, number: u32) {
+    sheet[field.range()].copy_from_slice(&number.to_le_bytes());
 }
 
 /// What document 01 says of a sheet: sum and count, or the refusal.
 type Answer = Result<(u64, u64), (u64, u64, u64)>;
 
 fn says(judge: &mut Judge, name: &str, sheet: &[u8], year: u32, answer: Answer) {
-    let archive = raw::check(sheet, year);
+    let archive = archive::check(sheet, year);
     let archive = match archive.number {
-        0 => Ok((archive.sum, archive.records)),
+        OK => Ok((archive.sum, archive.records)),
         number => Err((number, archive.place, archive.year)),
     };
     let refused = |Refusal { number, place, year }| (number, place, year);
@@ -79,26 +84,27 @@ pub fn run(judge: &mut Judge, case: u64) {
         0 => says(judge, "E", &sheet_e(), 2017, Ok((795, 0))),
         1 => {
             let mut sheet = sheet_e();
-            put(&mut sheet, 12, 796);
-            says(judge, "E with sum 796", &sheet, 2017, Err((5, 12, 0)));
+            put(&mut sheet, passport::SUM, 796);
+            says(judge, "E with sum 796", &sheet, 2017, Err((SUM, 12, 0)));
         }
         2 => {
             let cut = &sheet_e()[..451];
-            says(judge, "451 bytes of E", cut, 2017, Err((2, 0, 0)));
+            says(judge, "451 bytes of E", cut, 2017, Err((SHORT, 0, 0)));
         }
         3 => says(judge, "P", &sheet_p(), 1999, Ok((1865, 1))),
         4 => says(judge, "Q", &sheet_q(), 1999, Ok((2384, 1))),
         5 | 6 => {
             let mut sheet = sheet_p();
-            put(&mut sheet, 12, 1881);
-            sheet[472] = 18;
-            let (year, answer) = if case == 5 { (2015, Err((8, 472, 2016))) } else { (2016, Ok((1881, 1))) };
+            put(&mut sheet, passport::SUM, 1881);
+            sheet[header::BYTE20.at(START).place] = 18;
+            let (year, answer) =
+                if case == 5 { (2015, Err((TOO_NEW, 472, years::MULTIPOLYGON.into()))) } else { (2016, Ok((1881, 1))) };
             says(judge, "P with a multipolygon", &sheet, year, answer);
         }
-        7 => says(judge, "E at 2005", &sheet_e(), 2005, Err((16, 0, 0))),
+        7 => says(judge, "E at 2005", &sheet_e(), 2005, Err((ASK, 0, 0))),
         8 => table_of_p(judge),
-        9 => designation(judge, 31, Ok(452)),
-        10 => designation(judge, 32, Err((6, 28, 0))),
+        9 => designation(judge, 31, Ok(START as u64)),
+        10 => designation(judge, 32, Err((TEXT, 28, 0))),
         11 => record_of_q(judge),
         _ => visibilities(judge),
     }
@@ -107,9 +113,9 @@ pub fn run(judge: &mut Judge, case: u64) {
 fn table_of_p(judge: &mut Judge) {
     let sheet = sheet_p();
     let (mut table, mut elements) = ([9; 10], [9; 2]);
-    let answer = raw::unfold(&sheet, 2017, &mut table, &mut elements, &mut []);
-    judge.accepted = answer.number == 0;
-    judge.same(|| "P unfolded".into(), answer.number, 0);
+    let answer = archive::unfold(&sheet, 2017, &mut table, &mut elements, &mut []);
+    judge.accepted = answer.number == OK;
+    judge.same(|| "P unfolded".into(), answer.number, OK);
     judge.same(|| "P's numbers".into(), table, [0, 0, 0, 2, 255, 0, 1, 0, 1, 0]);
     judge.same(|| "P's elements".into(), elements, [3, 4]);
     if let Ok(reading) = second::read(&sheet, 2017) {
@@ -120,18 +126,18 @@ fn table_of_p(judge: &mut Judge) {
 /// What the listing program prints of Q's record.
 fn record_of_q(judge: &mut Judge) {
     let sheet = sheet_q();
-    let record = raw::record_at(&sheet, 2017, 0);
-    let expected = raw::Record {
-        at: 452,
+    let record = archive::record_at(&sheet, 2017, 0);
+    let expected = archive::Record {
+        at: START as u64,
         total: 42,
         reference: 0x202,
         generalisation: 255,
         parts: 1,
         items: 1,
         points: 1,
-        ..raw::Record::default()
+        ..archive::Record::default()
     };
-    judge.accepted = record.number == 0;
+    judge.accepted = record.number == OK;
     judge.same(|| "Q's record".into(), record, expected);
     judge.record_at(&sheet, 2017, 0);
     judge.record_at(&sheet, 2017, 1);
@@ -142,9 +148,9 @@ fn designation(judge: &mut Judge, length: usize, answer: Result<u64, (u64, u64, 
         panic!("E is refused");
     };
     reading.head.designation = vec![b'A'; length];
-    let written = raw::write(2017, &reading.head, &reading.table, &mut [0; 452]);
+    let written = archive::write(2017, &reading.head, &reading.table, &mut [0; START]);
     let archive = match written.number {
-        0 => Ok(written.length),
+        OK => Ok(written.length),
         number => Err((number, written.place, written.year)),
     };
     judge.same(|| format!("a designation of {length}"), archive, answer);
@@ -153,10 +159,10 @@ fn designation(judge: &mut Judge, length: usize, answer: Result<u64, (u64, u64, 
 }
 
 fn visibilities(judge: &mut Judge) {
-    let bounds = raw::Visibility { set: 1, lower: 10_000, upper: 10_000_000 };
-    let unset = raw::Visibility::default();
-    judge.same(|| "0x24".into(), raw::visibility_of(3, 0x24), bounds);
-    judge.same(|| "0xFF".into(), raw::visibility_of(3, 0xFF), unset);
+    let bounds = archive::Visibility { set: 1, lower: 10_000, upper: 10_000_000 };
+    let unset = archive::Visibility::default();
+    judge.same(|| "0x24".into(), archive::visibility_of(3, 0x24), bounds);
+    judge.same(|| "0xFF".into(), archive::visibility_of(3, 0xFF), unset);
     judge.visibility(3, 0x24);
     judge.visibility(3, 0xFF);
     judge.accepted = true;

@@ -5,6 +5,7 @@
 //! The words are document 01's. A case is told by its phase, its number and
 //! the seed of the run, and is the same in every run that has it.
 
+pub mod archive;
 pub mod each;
 pub mod features;
 pub mod heads;
@@ -16,7 +17,6 @@ pub mod memory;
 pub mod numbers;
 pub mod phases;
 pub mod places;
-pub mod raw;
 pub mod reasons;
 pub mod sheet_damage;
 pub mod sheets;

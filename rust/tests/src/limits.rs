@@ -3,11 +3,13 @@
 use crate::heads::{head, SETTINGS};
 use crate::judge::{Care, Judge};
 use crate::numbers::Numbers;
+use crate::phases::not_before;
 use crate::tables;
 use second::{Head, Table};
-
-/// The most bytes a sheet may have.
-pub const LIMIT: usize = 16_777_216;
+use sxf_sys::fields::{header, item, LIMIT, START};
+use sxf_sys::reference::{ELEMENT_SIZE, FLOATING, SEMANTICS, THREE_DIMENSIONS};
+use sxf_sys::row::{self, ITEMS};
+use sxf_sys::years;
 
 const TOO_LONG_SHEETS: u64 = 120;
 const TOO_LONG_TABLES: u64 = 120;
@@ -54,7 +56,7 @@ pub fn run(judge: &mut Judge, case: u64, numbers: &mut Numbers) {
 fn too_long_sheet(judge: &mut Judge, case: usize, numbers: &mut Numbers) {
     let length = LIMIT + 1 + case * case;
     let sheet = vec![0; length];
-    let year = SETTINGS[case % 9];
+    let year = SETTINGS[case % SETTINGS.len()];
     judge.note(format!("{length} zeros"));
     judge.reads_in_place(&sheet, &[(year, Care::Whole), (2005, Care::Check)], numbers);
 }
@@ -73,8 +75,7 @@ fn at_limit(judge: &mut Judge, numbers: &mut Numbers, shape: Shape, over: usize)
     judge.reads(&sheet, &[(year, Care::Once)], numbers);
     if over == 0 {
         let due = second::read(&sheet, year);
-        let sizes = [&table.numbers, &table.elements].map(Vec::len);
-        let exact = [sizes[0], sizes[1], table.bytes.len()];
+        let exact = [table.numbers.len(), table.elements.len(), table.bytes.len()];
         judge.unfold(&sheet, year, &due, exact);
         for slice in 0..3 {
             let mut short = exact;
@@ -86,59 +87,70 @@ fn at_limit(judge: &mut Judge, numbers: &mut Numbers, shape: Shape, over: usize)
 
 /// A head and a table that write to exactly so many bytes.
 fn filled(numbers: &mut Numbers, shape: Shape, length: usize) -> (u32, Head, Table) {
-    let year = match shape {
-        Shape::LongItem => numbers.pick(&SETTINGS[4..]),
-        Shape::Points => numbers.pick(&SETTINGS[1..]),
-        Shape::Items | Shape::Records => numbers.pick(&SETTINGS),
+    let since = match shape {
+        Shape::LongItem => years::TYPE_128,
+        Shape::Points => years::MARK_65535,
+        Shape::Items | Shape::Records => SETTINGS[0],
     };
+    let year = not_before(numbers, since);
     let mut table = Table::default();
-    let about = length - 5000;
-    let taken = match shape {
+    let taken = fill(&mut table, numbers, shape, length - 5000);
+    fill_up(&mut table, numbers, length - START - taken);
+    (year, head(numbers, year), table)
+}
+
+/// Adds records of about so many bytes, and tells how many they take. A value
+/// of zeros is closed, and costs no time to make.
+fn fill(table: &mut Table, numbers: &mut Numbers, shape: Shape, about: usize) -> usize {
+    match shape {
         Shape::LongItem => {
-            tables::record(&mut table, numbers, 0x200, 0, &[0]);
+            tables::record(table, numbers, SEMANTICS, 0, &[0]);
             let value = about & !1;
-            // A value of zeros is closed, and costs no time to make.
-            table.numbers[7] = 1;
-            table.numbers.extend_from_slice(&[1, 128, 255, value as u64]);
+            table.numbers[ITEMS] = 1;
+            table.numbers.extend(row::Item { code: 1, kind: 128, scale: 255, length: value as u64 }.numbers());
             table.bytes = vec![0; value];
-            32 + 8 + value
+            header::SIZE + item::LONG_LENGTH.after() + value
         }
         Shape::Items => {
-            tables::record(&mut table, numbers, 0x200, 0, &[0]);
-            let items = about / 516;
-            table.numbers[7] = items as u64;
+            tables::record(table, numbers, SEMANTICS, 0, &[0]);
+            const VALUE: usize = 512;
+            const ITEM: usize = item::SIZE + VALUE;
+            let items = about / ITEM;
+            table.numbers[ITEMS] = items as u64;
             for _ in 0..items {
-                table.numbers.extend_from_slice(&[2, 127, 255, 512]);
+                table.numbers.extend(row::Item { code: 2, kind: 127, scale: 255, length: VALUE as u64 }.numbers());
             }
-            table.bytes = vec![0; 512 * items];
-            32 + 516 * items
+            table.bytes = vec![0; VALUE * items];
+            header::SIZE + ITEM * items
         }
         Shape::Points => {
-            // Large floating elements in three dimensions.
-            let count = about / 24;
-            tables::record(&mut table, numbers, 0x6_0400, 0, &[count as u64]);
-            32 + 24 * count
+            let reference = ELEMENT_SIZE | FLOATING | THREE_DIMENSIONS;
+            let point = tables::widths(reference).point();
+            let count = about / point;
+            tables::record(table, numbers, reference, 0, &[count as u64]);
+            header::SIZE + point * count
         }
         Shape::Records => {
-            let records = about / 32;
+            let records = about / header::SIZE;
             for _ in 0..records {
-                tables::record(&mut table, numbers, 1, 7, &[0]);
+                tables::record(table, numbers, 1, 7, &[0]);
             }
-            32 * records
+            header::SIZE * records
         }
-    };
-    // The last record takes the rest, in items of 5 to 260 bytes.
-    let row = table.numbers.len();
-    tables::record(&mut table, numbers, 0x200, 0, &[0]);
-    let mut left = length - 452 - taken - 32;
-    while left > 0 {
-        let item = if left <= 260 { left } else { 255 };
-        let value = item - 4;
-        let scale = value as u64 - 1;
-        table.numbers[row + 7] += 1;
-        table.numbers.extend_from_slice(&[3, 0, scale, value as u64]);
-        table.bytes.resize(table.bytes.len() + value, 0);
-        left -= item;
     }
-    (year, head(numbers, year), table)
+}
+
+/// Adds a last record of exactly so many bytes, in items of 5 to 260.
+fn fill_up(table: &mut Table, numbers: &mut Numbers, bytes: usize) {
+    let last = table.numbers.len();
+    tables::record(table, numbers, SEMANTICS, 0, &[0]);
+    let mut left = bytes - header::SIZE;
+    while left > 0 {
+        let whole = if left <= 260 { left } else { 255 };
+        let value = whole - item::SIZE;
+        table.numbers[last + ITEMS] += 1;
+        table.numbers.extend(row::Item { code: 3, kind: 0, scale: value as u64 - 1, length: value as u64 }.numbers());
+        table.bytes.resize(table.bytes.len() + value, 0);
+        left -= whole;
+    }
 }

@@ -187,24 +187,16 @@ fn print_reasons(tally: &Tally) {
     println!("no NaN, or the first at each corner: {:?}", tally.nans);
 }
 
-fn main() -> ExitCode {
-    let Some(options) = options() else {
-        eprintln!("--seed S, --long, --times T, --phase PHASE, --case PHASE/NUMBER, --reasons or --trace");
-        return ExitCode::from(2);
-    };
-    if let (Some(phase), Some(case)) = (options.phase, options.case) {
-        return ExitCode::from(u8::from(!run_case(&options, phase, case)));
-    }
-    let start = Instant::now();
+/// Runs the phases that are asked for, and prints a line for each.
+fn run_phases(options: &Options) -> Run {
     println!("{:15}{:>9}{:>10}{:>13}{:>9}", "phase", "cases", "accepted", "comparisons", "seconds");
-    let mut all = Outcome::default();
-    let (mut drawn, mut drawn_accepted) = (0, 0);
+    let mut run = Run::default();
     for phase in PHASES {
         if options.phase.is_some_and(|only| only != phase) {
             continue;
         }
         let start = Instant::now();
-        let outcome = run_phase(phase, &options);
+        let outcome = run_phase(phase, options);
         println!(
             "{:15}{:>9}{:>10}{:>13}{:>9.1}",
             phase.name(),
@@ -215,33 +207,62 @@ fn main() -> ExitCode {
         );
         tell(phase, options.seed, &outcome.failed, TOLD);
         if phase.is_drawn() {
-            drawn += outcome.cases;
-            drawn_accepted += outcome.accepted;
+            run.drawn += outcome.cases;
+            run.drawn_accepted += outcome.accepted;
         }
-        all.add(outcome);
+        run.all.add(outcome);
     }
-    print_answers(&all.tally);
+    run
+}
+
+/// What all phases came to, and of those whose cases are drawn at random how
+/// many cases there were and how many were accepted.
+#[derive(Default)]
+struct Run {
+    all: Outcome,
+    drawn: u64,
+    drawn_accepted: u64,
+}
+
+impl Run {
+    /// What was met too seldom.
+    fn missing(&self) -> Vec<String> {
+        let mut missing = self.all.tally.missing(LEAST);
+        if self.drawn_accepted * 3 < self.drawn {
+            missing.push("less than a third of the drawn cases was accepted".into());
+        }
+        missing
+    }
+}
+
+fn main() -> ExitCode {
+    let Some(options) = options() else {
+        eprintln!("--seed S, --long, --times T, --phase PHASE, --case PHASE/NUMBER, --reasons or --trace");
+        return ExitCode::from(2);
+    };
+    if let (Some(phase), Some(case)) = (options.phase, options.case) {
+        return ExitCode::from(u8::from(!run_case(&options, phase, case)));
+    }
+    let start = Instant::now();
+    let run = run_phases(&options);
+    print_answers(&run.all.tally);
     if options.reasons {
-        print_reasons(&all.tally);
+        print_reasons(&run.all.tally);
     }
     println!(
-        "\nseed {}: {drawn} drawn cases, of which {drawn_accepted} were accepted; {} comparisons in {:.1} s",
+        "\nseed {}: {} drawn cases, of which {} were accepted; {} comparisons in {:.1} s",
         options.seed,
-        all.comparisons,
+        run.drawn,
+        run.drawn_accepted,
+        run.all.comparisons,
         start.elapsed().as_secs_f64()
     );
     // One phase alone need not meet everything.
-    let mut missing = Vec::new();
-    if options.phase.is_none() {
-        missing = all.tally.missing(LEAST);
-        if drawn_accepted * 3 < drawn {
-            missing.push("less than a third of the drawn cases was accepted".into());
-        }
-    }
+    let missing = if options.phase.is_none() { run.missing() } else { Vec::new() };
     for line in &missing {
         println!("FAILED {line}; {LEAST} are needed");
     }
-    let failed = (all.failed.len() + missing.len()) as u64;
-    println!("rust tests: {} passed, {failed} failed", all.cases - all.failed.len() as u64);
+    let failed = (run.all.failed.len() + missing.len()) as u64;
+    println!("rust tests: {} passed, {failed} failed", run.all.cases - run.all.failed.len() as u64);
     ExitCode::from(u8::from(failed > 0))
 }

@@ -19,7 +19,7 @@ impl Numbers {
         Numbers { state }
     }
 
-    /// Any number.
+    /// A number of 64 bits.
     pub fn any(&mut self) -> u64 {
         self.state = self.state.wrapping_add(0x9E37_79B9_7F4A_7C15);
         mix(self.state)
@@ -40,7 +40,7 @@ impl Numbers {
         first + self.below(last - first + 1)
     }
 
-    /// True `times` times `of`, in the long run.
+    /// True in `times` of `of` cases, in the long run.
     pub fn chance(&mut self, times: u64, of: u64) -> bool {
         self.below(of) < times
     }
@@ -63,7 +63,7 @@ impl Numbers {
         }
     }
 
-    /// So many bytes, any.
+    /// So many bytes, which may be any.
     pub fn bytes(&mut self, length: usize) -> Vec<u8> {
         (0..length).map(|_| self.byte()).collect()
     }

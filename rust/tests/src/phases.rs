@@ -19,9 +19,9 @@ use second::{Head, Table};
 pub enum Phase {
     /// Document 01's own sheets.
     Known,
-    /// Visibility under one flag byte, of all bytes.
+    /// What each generalisation byte says under one byte of flags.
     Visibility,
-    /// Values of one number, of all types and scales.
+    /// The value of one number for all types and scales.
     Values,
     /// Slices of no length, in all combinations.
     Empty,
@@ -37,11 +37,11 @@ pub enum Phase {
     EachNumber,
     /// Sheets that are right.
     Sheets,
-    /// Sheets that were right.
+    /// Sheets that were right before they were damaged.
     DamagedSheets,
     /// Tables that are right.
     Tables,
-    /// Tables that were right.
+    /// Tables that were right before they were damaged.
     DamagedTables,
     /// Records of many points, parts, items or bytes, right or not.
     Large,
@@ -114,55 +114,56 @@ impl Phase {
         judge.start(numbers.any());
         match self {
             Phase::Known => known::run(judge, case),
-            Phase::Visibility => {
-                for byte in 0..=255 {
-                    judge.visibility(case as u8, byte);
-                }
-                judge.accepted = true;
-            }
+            Phase::Visibility => visibilities(judge, case as u8),
             Phase::Values => values(judge, numbers, case),
             Phase::Empty => empty(judge, numbers, case),
             Phase::Limits => limits::run(judge, case, numbers),
-            Phase::EachBit => {
-                let made = a_sheet(judge, numbers);
-                let year = not_before(numbers, made.year);
-                each::bits(judge, &made, year, numbers);
-            }
-            Phase::EachCut => {
-                let made = a_sheet(judge, numbers);
-                let year = not_before(numbers, made.year);
-                each::cuts(judge, &made, year, numbers);
-            }
             Phase::EachByte => each::byte(judge, case as u8, numbers),
-            Phase::EachNumber => {
-                let (made, head, table) = a_table(judge, numbers);
-                let year = not_before(numbers, made);
-                each::table_numbers(judge, &head, &table, year, numbers);
-            }
-            Phase::Sheets => {
-                let made = a_sheet(judge, numbers);
-                judge.note("as written".into());
-                let year = not_before(numbers, made.year);
-                reads(judge, &made.sheet, year, numbers);
-            }
-            Phase::DamagedSheets => {
-                let made = a_sheet(judge, numbers);
-                damaged_sheet(judge, &made, numbers);
-            }
-            Phase::Tables => {
-                let (made, head, table) = a_table(judge, numbers);
-                judge.note("undamaged".into());
-                let year = not_before(numbers, made);
-                let years = with_others(numbers, year);
-                judge.writes(&head, &table, &years, numbers);
-            }
-            Phase::DamagedTables => {
-                let (made, head, table) = a_table(judge, numbers);
-                damaged_table(judge, made, head, table, numbers);
-            }
+            Phase::EachBit | Phase::EachCut | Phase::Sheets | Phase::DamagedSheets => self.with_sheet(judge, numbers),
+            Phase::EachNumber | Phase::Tables | Phase::DamagedTables => self.with_table(judge, numbers),
             Phase::Large => large::run(judge, numbers),
         }
     }
+
+    /// Runs a case that starts from a sheet that is right.
+    fn with_sheet(self, judge: &mut Judge, numbers: &mut Numbers) {
+        let made = a_sheet(judge, numbers);
+        if self == Phase::DamagedSheets {
+            return damaged_sheet(judge, &made, numbers);
+        }
+        let year = not_before(numbers, made.year);
+        match self {
+            Phase::EachBit => each::bits(judge, &made, year, numbers),
+            Phase::EachCut => each::cuts(judge, &made, year, numbers),
+            _ => {
+                judge.note("as written".into());
+                reads(judge, &made.sheet, year, numbers);
+            }
+        }
+    }
+
+    /// Runs a case that starts from a table that is right.
+    fn with_table(self, judge: &mut Judge, numbers: &mut Numbers) {
+        let (year, head, table) = a_table(judge, numbers);
+        if self == Phase::DamagedTables {
+            return damaged_table(judge, year, head, table, numbers);
+        }
+        let year = not_before(numbers, year);
+        if self == Phase::EachNumber {
+            return each::table_numbers(judge, &head, &table, year, numbers);
+        }
+        judge.note("undamaged".into());
+        let years = with_others(numbers, year);
+        judge.writes(&head, &table, &years, numbers);
+    }
+}
+
+/// What every generalisation byte says under these flags.
+fn visibilities(judge: &mut Judge, flags: u8) {
+    for byte in 0..=255 {
+        judge.visibility(flags, byte);
+    }
+    judge.accepted = true;
 }
 
 fn a_sheet(judge: &mut Judge, numbers: &mut Numbers) -> Made {
@@ -185,15 +186,15 @@ fn a_table(judge: &mut Judge, numbers: &mut Numbers) -> (u32, Head, Table) {
 
 /// A setting at which nothing made for this one is too new.
 pub(crate) fn not_before(numbers: &mut Numbers, year: u32) -> u32 {
-    let settings = SETTINGS.iter().position(|&setting| setting >= year);
-    numbers.pick(&SETTINGS[settings.unwrap_or(8)..])
+    let from = SETTINGS.iter().position(|&setting| setting >= year);
+    numbers.pick(&SETTINGS[from.unwrap_or(SETTINGS.len() - 1)..])
 }
 
 /// The setting to ask at after damage: mostly one at which nothing was too
 /// new before it.
-fn after_damage(numbers: &mut Numbers, made: u32) -> u32 {
+fn after_damage(numbers: &mut Numbers, year: u32) -> u32 {
     if numbers.chance(4, 5) {
-        not_before(numbers, made)
+        not_before(numbers, year)
     } else {
         setting(numbers)
     }
@@ -233,10 +234,10 @@ pub(crate) fn damaged_sheet(judge: &mut Judge, made: &Made, numbers: &mut Number
     reads(judge, &sheet, year, numbers);
 }
 
-pub(crate) fn damaged_table(judge: &mut Judge, made: u32, mut head: Head, mut table: Table, numbers: &mut Numbers) {
+pub(crate) fn damaged_table(judge: &mut Judge, year: u32, mut head: Head, mut table: Table, numbers: &mut Numbers) {
     let notes = table_damage::damage(numbers, &mut head, &mut table);
     judge.notes.extend(notes);
-    let year = after_damage(numbers, made);
+    let year = after_damage(numbers, year);
     let years = with_others(numbers, year);
     judge.writes(&head, &table, &years, numbers);
 }

@@ -1,11 +1,13 @@
 //! Where the fields of a sheet lie that was written from a table.
 
-use crate::tables::{closing_zeros, has_text, row_numbers, widths};
+use crate::tables::{closing_zeros, has_text, rows, widths, Row};
 use second::Table;
+use sxf_sys::fields::{descriptor, header, item, passport, subobject, Field, START};
+use sxf_sys::row;
 
-/// What stands at a place.
+/// What stands in a field.
 #[derive(Clone, Copy, PartialEq, Eq, Debug)]
-pub enum Field {
+pub enum Kind {
     Identifier,
     FixedLength,
     Edition,
@@ -16,11 +18,13 @@ pub enum Field {
     Epsg,
     Corner,
     Offset,
-    Carried,
+    /// A part of the rest that tells nothing, or only the unit.
+    Rest,
     RecordCount,
     Reserved,
     Total,
     Metric,
+    /// A number of the record's row that may be any number.
     Row,
     Reference,
     Word,
@@ -39,12 +43,11 @@ pub enum Field {
     ValueEnd,
 }
 
-/// A field, its place and its length.
+/// A field of a sheet.
 #[derive(Clone, Copy, Debug)]
 pub struct Spot {
+    pub kind: Kind,
     pub field: Field,
-    pub at: usize,
-    pub length: usize,
 }
 
 /// Where a record starts, where its metric ends, and where it ends.
@@ -61,70 +64,67 @@ pub struct Places {
     pub records: Vec<Bounds>,
 }
 
-const HEAD: [(Field, usize, usize); 31] = [
-    (Field::Identifier, 0, 4),
-    (Field::FixedLength, 4, 4),
-    (Field::Edition, 8, 4),
-    (Field::Sum, 12, 4),
-    (Field::Text, 16, 12),
-    (Field::Text, 28, 32),
-    (Field::Scale, 60, 4),
-    (Field::Text, 64, 32),
-    (Field::Flags, 96, 1),
-    (Field::Flags, 97, 1),
-    (Field::Flags, 98, 1),
-    (Field::Flags, 99, 1),
-    (Field::Epsg, 100, 4),
-    (Field::Corner, 104, 64),
-    (Field::Carried, 168, 68),
-    (Field::Carried, 236, 1),
-    (Field::Carried, 237, 75),
-    (Field::Carried, 312, 4),
-    (Field::Carried, 316, 68),
-    (Field::Offset, 384, 8),
-    (Field::Offset, 392, 8),
-    (Field::Identifier, 400, 4),
-    (Field::FixedLength, 404, 4),
-    (Field::Text, 408, 32),
-    (Field::RecordCount, 440, 4),
-    (Field::Flags, 444, 1),
-    (Field::Flags, 445, 1),
-    (Field::Flags, 446, 1),
-    (Field::Flags, 447, 1),
-    (Field::Reserved, 448, 2),
-    (Field::Reserved, 450, 2),
+/// The bytes between two fields.
+const fn between(before: Field, after: Field) -> Field {
+    Field::new(before.after(), after.place - before.after())
+}
+
+const HEAD: [(Kind, Field); 31] = [
+    (Kind::Identifier, passport::IDENTIFIER),
+    (Kind::FixedLength, passport::OWN_LENGTH),
+    (Kind::Edition, passport::EDITION),
+    (Kind::Sum, passport::SUM),
+    (Kind::Text, passport::DATE),
+    (Kind::Text, passport::DESIGNATION),
+    (Kind::Scale, passport::SCALE),
+    (Kind::Text, passport::TITLE),
+    (Kind::Flags, passport::FLAGS),
+    (Kind::Flags, passport::LABELS),
+    (Kind::Flags, passport::ACCURACY),
+    (Kind::Flags, passport::SORTING),
+    (Kind::Epsg, passport::EPSG),
+    (Kind::Corner, passport::CORNERS),
+    (Kind::Rest, between(passport::CORNERS, passport::UNIT)),
+    (Kind::Rest, passport::UNIT),
+    (Kind::Rest, between(passport::UNIT, passport::RESOLUTION)),
+    (Kind::Rest, passport::RESOLUTION),
+    (Kind::Rest, between(passport::RESOLUTION, passport::NORTH)),
+    (Kind::Offset, passport::NORTH),
+    (Kind::Offset, passport::EAST),
+    (Kind::Identifier, descriptor::IDENTIFIER),
+    (Kind::FixedLength, descriptor::OWN_LENGTH),
+    (Kind::Text, descriptor::DESIGNATION),
+    (Kind::RecordCount, descriptor::COUNT),
+    (Kind::Flags, descriptor::FLAGS),
+    (Kind::Flags, descriptor::LABELS),
+    (Kind::Flags, descriptor::SECRECY),
+    (Kind::Flags, descriptor::KEEPING),
+    (Kind::Reserved, Field::new(descriptor::RESERVED.place, 2)),
+    (Kind::Reserved, Field::new(descriptor::RESERVED.place + 2, 2)),
 ];
 
-const HEADER: [(Field, usize, usize); 13] = [
-    (Field::Identifier, 0, 4),
-    (Field::Total, 4, 4),
-    (Field::Metric, 8, 4),
-    (Field::Row, 12, 4),
-    (Field::Row, 16, 2),
-    (Field::Row, 18, 2),
-    (Field::Reference, 20, 1),
-    (Field::Reference, 21, 1),
-    (Field::Reference, 22, 1),
-    (Field::Row, 23, 1),
-    (Field::Word, 24, 4),
-    (Field::Subobjects, 28, 2),
-    (Field::Points, 30, 2),
+const HEADER: [(Kind, Field); 13] = [
+    (Kind::Identifier, header::IDENTIFIER),
+    (Kind::Total, header::TOTAL),
+    (Kind::Metric, header::METRIC),
+    (Kind::Row, header::CODE),
+    (Kind::Row, header::IN_GROUP),
+    (Kind::Row, header::GROUP),
+    (Kind::Reference, header::BYTE20),
+    (Kind::Reference, header::BYTE21),
+    (Kind::Reference, header::BYTE22),
+    (Kind::Row, header::GENERALISATION),
+    (Kind::Word, header::WORD),
+    (Kind::Subobjects, header::SUBOBJECTS),
+    (Kind::Points, header::POINTS),
 ];
 
 /// The places of the sheet that is written from a table without refusal.
 pub fn places(table: &Table) -> Places {
-    let mut places = Places { spots: Vec::new(), records: Vec::new() };
-    let mut walk = Walk { spots: &mut places.spots, at: 452 };
-    for (field, at, length) in HEAD {
-        walk.spots.push(Spot { field, at, length });
-    }
-    let mut row = 0;
-    while row < table.numbers.len() {
-        let bounds = walk.record(table, row);
-        places.records.push(bounds);
-        row += row_numbers(table, row);
-    }
-    places
+    let mut spots = HEAD.map(|(kind, field)| Spot { kind, field }).to_vec();
+    let mut walk = Walk { spots: &mut spots, at: START };
+    let records = rows(table).map(|row| walk.record(&row)).collect();
+    Places { spots, records }
 }
 
 struct Walk<'a> {
@@ -133,49 +133,47 @@ struct Walk<'a> {
 }
 
 impl Walk<'_> {
-    fn record(&mut self, table: &Table, row: usize) -> Bounds {
+    fn record(&mut self, row: &Row) -> Bounds {
         let at = self.at;
-        for (field, offset, length) in HEADER {
-            let at = at + offset;
-            self.spots.push(Spot { field, at, length });
-        }
-        self.at += 32;
-        let numbers = &table.numbers[row..row + row_numbers(table, row)];
-        let reference = numbers[3];
-        let (parts, items) = numbers[8..].split_at(2 * numbers[6] as usize);
-        for (number, part) in parts.chunks_exact(2).enumerate() {
+        self.spots.extend(HEADER.map(|(kind, field)| Spot { kind, field: field.at(at) }));
+        self.at += header::SIZE;
+        let reference = row.record.reference;
+        for (number, part) in row.parts.iter().enumerate() {
+            let part = row::Part::of(part);
             if number > 0 {
-                self.field(Field::PartHead, 4);
+                self.field(Kind::PartHead, subobject::SIZE);
             }
-            let points = widths(reference).point() * part[0] as usize;
-            self.field(Field::Elements, points);
+            self.field(Kind::Elements, widths(reference).point() * part.points as usize);
             if has_text(reference) {
-                self.field(Field::PartTextLength, 1);
-                self.field(Field::PartText, part[1] as usize);
-                self.field(Field::PartTextEnd, 1);
+                self.field(Kind::PartTextLength, 1);
+                self.field(Kind::PartText, part.text_length as usize);
+                self.field(Kind::PartTextEnd, 1);
             }
         }
         let metric_end = self.at;
-        for item in items.chunks_exact(4) {
-            self.field(Field::ItemCode, 2);
-            self.field(Field::ItemType, 1);
-            self.field(Field::ItemScale, 1);
-            if item[1] == 128 {
-                self.field(Field::LongLength, 4);
-            }
-            let zeros = closing_zeros(item[1]);
-            self.field(Field::Value, item[3] as usize - zeros);
-            self.field(Field::ValueEnd, zeros);
+        for item in row.items {
+            self.item(&row::Item::of(item));
         }
         Bounds { at, metric_end, end: self.at }
     }
 
-    /// The next field; one of no bytes is left out.
-    fn field(&mut self, field: Field, length: usize) {
-        let at = self.at;
-        if length > 0 {
-            self.spots.push(Spot { field, at, length });
+    fn item(&mut self, item: &row::Item) {
+        self.field(Kind::ItemCode, item::CODE.width);
+        self.field(Kind::ItemType, item::TYPE.width);
+        self.field(Kind::ItemScale, item::SCALE.width);
+        if item.kind == 128 {
+            self.field(Kind::LongLength, item::LONG_LENGTH.width);
         }
-        self.at += length;
+        let zeros = closing_zeros(item.kind);
+        self.field(Kind::Value, item.length as usize - zeros);
+        self.field(Kind::ValueEnd, zeros);
+    }
+
+    /// The next field; one of no bytes is left out.
+    fn field(&mut self, kind: Kind, width: usize) {
+        if width > 0 {
+            self.spots.push(Spot { kind, field: Field::new(self.at, width) });
+        }
+        self.at += width;
     }
 }

@@ -2,33 +2,39 @@
 
 use crate::tally::{Reason, Way, Where};
 use second::{Head, Refusal, Table};
+use sxf_sys::fields::{header, Field, START};
+use sxf_sys::refusals::{ASK, LEFT_OVER, LENGTH, ROOM, TOO_LONG};
+use sxf_sys::row::{ITEMS, ITEM_WIDTH, PARTS, PART_WIDTH, POINTS, ROW_WIDTH};
 
 /// The reason for a sheet's refusal.
 pub fn of_sheet(sheet: &[u8], refusal: Refusal) -> Reason {
+    let place = refusal.place as usize;
     let at = match refusal.number {
-        16 => Where::Asked,
-        _ if refusal.place < 452 => Where::Head(refusal.place),
-        13 => Where::After,
-        number => in_records(sheet, refusal.place as usize, number),
+        ASK => Where::Asked,
+        _ if place < START => Where::Head(place),
+        LEFT_OVER => Where::After,
+        number => in_records(sheet, place, number),
     };
     Reason { way: Way::Read, number: refusal.number, at, year: refusal.year }
 }
 
 fn in_records(sheet: &[u8], place: usize, refusal: u64) -> Where {
-    let number = |at: usize| {
-        let bytes = sheet.get(at..at + 4).unwrap_or(&[0; 4]);
+    let number = |field: Field| {
+        let bytes = sheet.get(field.range()).unwrap_or(&[0; 4]);
         bytes.iter().rev().fold(0, |number, &byte| number << 8 | usize::from(byte))
     };
-    let mut at = 452;
+    let total = |at: usize| number(header::TOTAL.at(at));
+    let mut at = START;
     // LENGTH may stand where a record ends; no other refusal of it does.
-    let reach = usize::from(refusal == Refusal::LENGTH);
+    let reach = usize::from(refusal == LENGTH);
     // The records before the one refused are right.
-    while number(at + 4) >= 32 && place >= at + number(at + 4) + reach {
-        at += number(at + 4);
+    while total(at) >= header::SIZE && place >= at + total(at) + reach {
+        at += total(at);
     }
-    let metric_end = at + 32 + number(at + 8);
-    if place < at + 32 {
-        Where::Header((place - at) as u64)
+    let metric = at + header::SIZE;
+    let metric_end = metric + number(header::METRIC.at(at));
+    if place < metric {
+        Where::Header(place - at)
     } else if place < metric_end {
         Where::Metric
     } else if place == metric_end {
@@ -41,8 +47,8 @@ fn in_records(sheet: &[u8], place: usize, refusal: u64) -> Where {
 /// The reason for a refusal to write.
 pub fn of_table(year: u32, head: &Head, table: &Table, refusal: Refusal) -> Reason {
     let at = match refusal.number {
-        1 | 15 | 16 => Where::Asked,
-        _ if second::write(year, head, &Table::default(), usize::MAX).is_err() => Where::Head(refusal.place),
+        TOO_LONG | ROOM | ASK => Where::Asked,
+        _ if second::write(year, head, &Table::default(), usize::MAX).is_err() => Where::Head(refusal.place as usize),
         _ => in_table(&table.numbers, refusal.place as usize),
     };
     Reason { way: Way::Write, number: refusal.number, at, year: refusal.year }
@@ -55,24 +61,24 @@ fn in_table(numbers: &[u64], index: usize) -> Where {
             return Where::TableEnd;
         }
         let column = index - row;
-        if column < 8 {
-            return Where::Row(column as u64);
+        if column < ROW_WIDTH {
+            return Where::Row(column);
         }
-        // The rows up to this one are whole, or it were refused at its first.
-        let parts = numbers[row + 6] as usize;
-        let items = numbers[row + 7] as usize;
-        let (parts_at, items_at) = (row + 8, row + 8 + 2 * parts);
-        row = items_at + 4 * items;
+        // A row that is not whole is refused at its first number, so this one
+        // and those before it are whole.
+        let parts_at = row + ROW_WIDTH;
+        let items_at = parts_at + PART_WIDTH * numbers[row + PARTS] as usize;
+        row = items_at + ITEM_WIDTH * numbers[row + ITEMS] as usize;
         if index < items_at {
             let in_parts = index - parts_at;
-            return match (in_parts, in_parts % 2) {
-                (0, _) => Where::FirstPoints,
-                (_, 0) => Where::LaterPoints,
+            return match (in_parts, in_parts % PART_WIDTH) {
+                (POINTS, _) => Where::FirstPoints,
+                (_, POINTS) => Where::LaterPoints,
                 _ => Where::TextLength,
             };
         }
         if index < row {
-            return Where::Item(((index - items_at) % 4) as u64);
+            return Where::Item((index - items_at) % ITEM_WIDTH);
         }
     }
 }

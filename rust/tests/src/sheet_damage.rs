@@ -1,8 +1,10 @@
 //! Damage done to sheets: mostly small, so that it is found deep inside.
 
 use crate::numbers::Numbers;
-use crate::places::{Bounds, Field, Places, Spot};
+use crate::places::{Bounds, Kind, Places, Spot};
 use crate::sheets::{put_sum_right, small_sheet, Made};
+use sxf_sys::fields::{descriptor, header, Field, START};
+use sxf_sys::MARK;
 
 /// A sheet that is damaged step by step, and what was done to it. The places
 /// are those before the first damage; later ones may miss, which does no harm.
@@ -54,8 +56,8 @@ impl Damaged<'_> {
         if numbers.chance(1, 2) {
             return any;
         }
-        let kind = FIELDS[numbers.index(FIELDS.len())];
-        let of_kind = spots.iter().filter(|spot| spot.field == kind);
+        let kind = KINDS[numbers.index(KINDS.len())];
+        let of_kind = spots.iter().filter(|spot| spot.kind == kind);
         let count = of_kind.clone().count();
         if count == 0 {
             return any;
@@ -65,25 +67,25 @@ impl Damaged<'_> {
     }
 
     fn a_field(&mut self, numbers: &mut Numbers) {
-        let spot = self.spot(numbers);
-        self.note(format!("{:?} at {} altered", spot.field, spot.at));
-        let end = self.sheet.len().min(spot.at + spot.length);
-        let Some(field) = self.sheet.get_mut(spot.at..end) else {
+        let Spot { kind, field } = self.spot(numbers);
+        self.note(format!("{kind:?} at {} altered", field.place));
+        let end = self.sheet.len().min(field.after());
+        let Some(field) = self.sheet.get_mut(field.place..end) else {
             return;
         };
         if field.is_empty() {
             return;
         }
-        match spot.field {
-            Field::Text => alter_text(numbers, field),
-            Field::ItemType => field[0] = numbers.pick(&TYPES),
-            Field::ItemScale => {
+        match kind {
+            Kind::Text => alter_text(numbers, field),
+            Kind::ItemType => field[0] = numbers.pick(&TYPES),
+            Kind::ItemScale => {
                 let next = field[0].wrapping_add(1);
                 let before = field[0].wrapping_sub(1);
                 field[0] = numbers.pick(&[0, 0x7F, 0x80, 0xFE, 0xFF, next, before]);
             }
-            Field::Reference if numbers.chance(1, 4) => field[0] ^= numbers.pick(&[0x08, 0x10]),
-            Field::Reference | Field::Flags if numbers.chance(1, 2) => field[0] = numbers.byte(),
+            Kind::Reference if numbers.chance(1, 4) => field[0] ^= numbers.pick(&[0x08, 0x10]),
+            Kind::Reference | Kind::Flags if numbers.chance(1, 2) => field[0] = numbers.byte(),
             _ if field.len() <= 4 => alter_number(numbers, field),
             _ => {
                 let at = numbers.index(field.len());
@@ -108,8 +110,8 @@ impl Damaged<'_> {
     fn place(&self, numbers: &mut Numbers) -> usize {
         let at = match numbers.below(3) {
             0 => numbers.index(self.sheet.len() + 1),
-            1 => numbers.pick(&self.places.spots).at + numbers.index(2),
-            _ => self.a_record(numbers).map_or(452, |record| numbers.pick(&[record.at, record.end])),
+            1 => numbers.pick(&self.places.spots).field.place + numbers.index(2),
+            _ => self.a_record(numbers).map_or(START, |record| numbers.pick(&[record.at, record.end])),
         };
         at.min(self.sheet.len())
     }
@@ -141,11 +143,11 @@ impl Damaged<'_> {
     /// after this one's head or records, or a few over a few.
     fn splice(&mut self, numbers: &mut Numbers) {
         let other = small_sheet(numbers, self.year).sheet;
-        if self.sheet.len() < 452 {
+        if self.sheet.len() < START {
             return;
         }
         let count = self.records();
-        let other_count = u32_at(&other, 440);
+        let other_count = u32_in(&other, descriptor::COUNT);
         match numbers.below(4) {
             0 => {
                 let at = self.place(numbers);
@@ -155,14 +157,14 @@ impl Damaged<'_> {
                 self.note(format!("from {at} on the other sheet's bytes from {from}"));
             }
             1 => {
-                self.sheet.truncate(452);
-                self.sheet.extend_from_slice(&other[452..]);
+                self.sheet.truncate(START);
+                self.sheet.extend_from_slice(&other[START..]);
                 let count = numbers.pick(&[count, other_count]);
                 self.set_records(count);
                 self.note(format!("the other sheet's records, count {count}"));
             }
             2 => {
-                self.sheet.extend_from_slice(&other[452..]);
+                self.sheet.extend_from_slice(&other[START..]);
                 let count = count.wrapping_add(numbers.pick(&[0, other_count]));
                 self.set_records(count);
                 self.note(format!("the other sheet's records after, count {count}"));
@@ -203,7 +205,7 @@ impl Damaged<'_> {
             }
             _ => {
                 self.sheet.drain(record.at..record.end);
-                self.sheet.splice(452..452, bytes);
+                self.sheet.splice(START..START, bytes);
                 self.note(format!("the record at {at} put before the first"));
             }
         }
@@ -218,11 +220,12 @@ impl Damaged<'_> {
         let Some(record) = self.a_record(numbers) else {
             return self.end(numbers);
         };
-        if self.sheet.len() < record.end || self.sheet.len() < record.at + 32 {
+        let metric = record.at + header::SIZE;
+        if self.sheet.len() < record.end || self.sheet.len() < metric {
             return;
         }
         let in_metric = numbers.chance(1, 2) || record.metric_end == record.end;
-        let (from, to) = if in_metric { (record.at + 32, record.metric_end) } else { (record.metric_end, record.end) };
+        let (from, to) = if in_metric { (metric, record.metric_end) } else { (record.metric_end, record.end) };
         let most = numbers.pick(&[1, 2, 4, 8, 40]);
         let change = 1 + numbers.below(most) as usize;
         let spread = if numbers.chance(1, 2) { to - from } else { 0 };
@@ -239,20 +242,17 @@ impl Damaged<'_> {
         } else {
             self.sheet.drain(at..at + change);
         }
+        self.note(format!("{change} bytes {} at {at}", if grows { "put in" } else { "cut out" }));
         let by = if grows { change as u32 } else { (change as u32).wrapping_neg() };
         let total_goes = numbers.chance(9, 10);
         let metric_goes = in_metric != numbers.chance(1, 10);
         if total_goes {
-            self.add(record.at + 4, by);
+            self.add(header::TOTAL.at(record.at), by);
         }
         if metric_goes {
-            self.add(record.at + 8, by);
+            self.add(header::METRIC.at(record.at), by);
         }
-        let words = if grows { "put in" } else { "cut out" };
-        self.note(format!(
-            "{change} bytes {words} at {at} of the record at {}; total goes along: {total_goes}, metric: {metric_goes}",
-            record.at
-        ));
+        self.note(format!("in the record at {}: total goes along: {total_goes}, metric: {metric_goes}", record.at));
     }
 
     /// The mark, with a word that may be a count.
@@ -260,32 +260,33 @@ impl Damaged<'_> {
         let Some(record) = self.a_record(numbers) else {
             return self.end(numbers);
         };
-        if self.sheet.len() < record.at + 32 {
+        if self.sheet.len() < record.at + header::SIZE {
             return;
         }
+        const THE_MARK: u16 = MARK as u16;
         let any = numbers.any() as u32;
         let word = numbers.pick(&[0, 65534, 65535, 65536, u32::MAX, any, any & 0xFFFF]);
-        let points = numbers.pick(&[65534u16, 65535, 65535, 65535]);
-        self.sheet[record.at + 30..record.at + 32].copy_from_slice(&points.to_le_bytes());
-        self.sheet[record.at + 24..record.at + 28].copy_from_slice(&word.to_le_bytes());
+        let points = numbers.pick(&[THE_MARK - 1, THE_MARK, THE_MARK, THE_MARK]);
+        self.put(header::POINTS.at(record.at), &points.to_le_bytes());
+        self.put(header::WORD.at(record.at), &word.to_le_bytes());
         self.note(format!("{points} points and the word {word} at {}", record.at));
     }
 
     /// More or fewer records than are there, or bytes after the last.
     fn end(&mut self, numbers: &mut Numbers) {
-        if self.sheet.len() < 452 {
+        if self.sheet.len() < START {
             return;
         }
         let length = match numbers.below(3) {
             0 => 0,
             1 => 1 + numbers.index(34),
-            _ => 32,
+            _ => header::SIZE,
         };
         let mut bytes = numbers.bytes(length);
-        if numbers.chance(1, 2) && length >= 8 {
-            bytes[..4].copy_from_slice(&0x7FFF_7FFFu32.to_le_bytes());
+        if numbers.chance(1, 2) && length >= header::TOTAL.after() {
+            bytes[header::IDENTIFIER.range()].copy_from_slice(&header::IDENTIFIER_IS.to_le_bytes());
             let total = numbers.pick(&[0, 31, length as u32, length as u32 + 1, u32::MAX]);
-            bytes[4..8].copy_from_slice(&total.to_le_bytes());
+            bytes[header::TOTAL.range()].copy_from_slice(&total.to_le_bytes());
         }
         self.sheet.extend_from_slice(&bytes);
         let count = self.records();
@@ -307,10 +308,10 @@ impl Damaged<'_> {
         if numbers.chance(1, 2) {
             self.sheet.drain(record.metric_end..record.end);
             let total = (record.metric_end - record.at) as u32;
-            self.sheet[record.at + 4..record.at + 8].copy_from_slice(&total.to_le_bytes());
+            self.put(header::TOTAL.at(record.at), &total.to_le_bytes());
             self.note(format!("semantics of the record at {} cut off", record.at));
         } else {
-            self.sheet[record.at + 21] ^= 2;
+            self.sheet[header::BYTE21.at(record.at).place] ^= 2;
             self.note(format!("semantics flag of the record at {} turned", record.at));
         }
     }
@@ -321,57 +322,60 @@ impl Damaged<'_> {
     }
 
     fn records(&self) -> u32 {
-        u32_at(&self.sheet, 440)
+        u32_in(&self.sheet, descriptor::COUNT)
     }
 
     fn set_records(&mut self, count: u32) {
-        if let Some(field) = self.sheet.get_mut(440..444) {
-            field.copy_from_slice(&count.to_le_bytes());
-        }
+        self.put(descriptor::COUNT, &count.to_le_bytes());
     }
 
-    fn add(&mut self, at: usize, by: u32) {
-        let number = u32_at(&self.sheet, at).wrapping_add(by);
-        if let Some(field) = self.sheet.get_mut(at..at + 4) {
-            field.copy_from_slice(&number.to_le_bytes());
+    fn add(&mut self, field: Field, by: u32) {
+        let number = u32_in(&self.sheet, field).wrapping_add(by);
+        self.put(field, &number.to_le_bytes());
+    }
+
+    /// Stores the bytes of a field, if the sheet is long enough to have it.
+    fn put(&mut self, field: Field, bytes: &[u8]) {
+        if let Some(stored) = self.sheet.get_mut(field.range()) {
+            stored.copy_from_slice(bytes);
         }
     }
 }
 
-/// All kinds of fields; those that are often right whatever stands there are
-/// left to the choice among all fields.
-const FIELDS: [Field; 24] = [
-    Field::Identifier,
-    Field::FixedLength,
-    Field::Edition,
-    Field::Sum,
-    Field::Text,
-    Field::Flags,
-    Field::Epsg,
-    Field::Offset,
-    Field::RecordCount,
-    Field::Reserved,
-    Field::Total,
-    Field::Metric,
-    Field::Reference,
-    Field::Reference,
-    Field::Word,
-    Field::Subobjects,
-    Field::Points,
-    Field::PartHead,
-    Field::PartTextLength,
-    Field::PartTextEnd,
-    Field::ItemType,
-    Field::ItemScale,
-    Field::LongLength,
-    Field::ValueEnd,
+/// The kinds of fields to choose among; those that may hold anything are left
+/// to the choice among all fields.
+const KINDS: [Kind; 24] = [
+    Kind::Identifier,
+    Kind::FixedLength,
+    Kind::Edition,
+    Kind::Sum,
+    Kind::Text,
+    Kind::Flags,
+    Kind::Epsg,
+    Kind::Offset,
+    Kind::RecordCount,
+    Kind::Reserved,
+    Kind::Total,
+    Kind::Metric,
+    Kind::Reference,
+    Kind::Reference,
+    Kind::Word,
+    Kind::Subobjects,
+    Kind::Points,
+    Kind::PartHead,
+    Kind::PartTextLength,
+    Kind::PartTextEnd,
+    Kind::ItemType,
+    Kind::ItemScale,
+    Kind::LongLength,
+    Kind::ValueEnd,
 ];
 
 const TYPES: [u8; 16] = [0, 1, 2, 3, 4, 5, 7, 8, 9, 16, 125, 126, 127, 128, 129, 255];
 
-/// The number at a place; 0 past the sheet's end.
-fn u32_at(sheet: &[u8], at: usize) -> u32 {
-    sheet.get(at..at + 4).map_or(0, |bytes| bytes.iter().rev().fold(0, |number, &byte| number << 8 | u32::from(byte)))
+/// The number in a field; 0 past the sheet's end.
+fn u32_in(sheet: &[u8], field: Field) -> u32 {
+    sheet.get(field.range()).map_or(0, |bytes| bytes.iter().rev().fold(0, |number, &byte| number << 8 | u32::from(byte)))
 }
 
 /// A number of one to four bytes: one more or less, one bit, or an edge.

@@ -4,6 +4,7 @@ use crate::heads::{head, SETTINGS};
 use crate::numbers::Numbers;
 use crate::tables::{small, table, Sizes};
 use second::{Head, Table};
+use sxf_sys::fields::passport::SUM;
 
 /// A sheet, and what it was written from.
 pub struct Made {
@@ -14,7 +15,7 @@ pub struct Made {
     pub sheet: Vec<u8>,
 }
 
-/// A setting; the last is as likely as three others, for it has all features.
+/// A setting, one time in four the last, since it has all features.
 pub fn setting(numbers: &mut Numbers) -> u32 {
     if numbers.chance(1, 4) {
         2017
@@ -47,9 +48,9 @@ pub fn written(year: u32, head: Head, table: Table) -> Made {
 
 /// Puts the sum right, if the sheet is long enough to have one.
 pub fn put_sum_right(sheet: &mut [u8]) {
-    if sheet.len() >= 16 {
-        sheet[12..16].fill(0);
+    if sheet.len() >= SUM.after() {
+        sheet[SUM.range()].fill(0);
         let sum = sheet.iter().fold(0u32, |sum, &byte| sum.wrapping_add(u32::from(byte)));
-        sheet[12..16].copy_from_slice(&sum.to_le_bytes());
+        sheet[SUM.range()].copy_from_slice(&sum.to_le_bytes());
     }
 }

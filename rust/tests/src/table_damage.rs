@@ -1,23 +1,20 @@
 //! Damage done to heads and tables that were right.
 
+use crate::heads::most;
 use crate::numbers::Numbers;
-use crate::tables::row_numbers;
+use crate::tables::rows;
 use second::{Head, Table};
-
-/// Where the rows of a table start; of one that is right so far.
-fn rows(table: &Table) -> Vec<usize> {
-    let mut rows = Vec::new();
-    let mut row = 0;
-    while row < table.numbers.len() {
-        rows.push(row);
-        row += row_numbers(table, row);
-    }
-    rows
-}
+use sxf_sys::fields::passport::{ACCURACY, EAST, EPSG, FLAGS, LABELS, NORTH, REST, SORTING};
+use sxf_sys::fields::{descriptor, passport};
+use sxf_sys::reference as bits;
+use sxf_sys::row::{
+    CODE, GENERALISATION, GROUP, IN_GROUP, ITEMS, ITEM_LENGTH, ITEM_SCALE, ITEM_TYPE, ITEM_WIDTH, PARTS, PART_WIDTH, POINTS,
+    REFERENCE, ROW_WIDTH, WORD,
+};
 
 /// One to three damages, mostly one. What was done is told.
 pub fn damage(numbers: &mut Numbers, head: &mut Head, table: &mut Table) -> Vec<String> {
-    let rows = rows(table);
+    let rows: Vec<usize> = rows(table).map(|row| row.index).collect();
     let mut notes = Vec::new();
     for _ in 0..numbers.pick(&[1, 1, 1, 2, 3]) {
         let note = match numbers.below(20) {
@@ -40,31 +37,48 @@ fn head_damage(numbers: &mut Numbers, head: &mut Head) -> String {
     match which {
         0..=3 => {
             let (text, most) = match which {
-                0 => (&mut head.date, 11),
-                1 => (&mut head.designation, 31),
-                2 => (&mut head.title, 31),
-                _ => (&mut head.designation2, 31),
+                0 => (&mut head.date, most(passport::DATE)),
+                1 => (&mut head.designation, most(passport::DESIGNATION)),
+                2 => (&mut head.title, most(passport::TITLE)),
+                _ => (&mut head.designation2, most(descriptor::DESIGNATION)),
             };
             alter_text(numbers, text, most);
             format!("text {which} of {} bytes", text.len())
         }
         4 | 5 => {
-            let at = numbers.pick(&[0, 0, 1, 2, 3, 4, 4, 5, 7, 288, 295, 296, 303]);
+            let at = numbers.pick(&CHECKED) - REST.place;
             head.rest[at] = alter_byte(numbers, head.rest[at]);
             format!("rest, byte {at}")
         }
         6 => {
-            let at = numbers.index(4);
-            head.flags[at] = alter_byte(numbers, head.flags[at]);
-            format!("flags, byte {at}")
+            let at = numbers.index(head.carried.len());
+            head.carried[at] = alter_byte(numbers, head.carried[at]);
+            format!("carried, byte {at}")
         }
         _ => {
-            let at = numbers.index(304);
+            let at = numbers.index(head.rest.len());
             head.rest[at] = numbers.byte();
             format!("rest, byte {at}")
         }
     }
 }
+
+/// Places of the rest that rules look at: of a wider field its ends.
+const CHECKED: [usize; 13] = [
+    FLAGS.place,
+    FLAGS.place,
+    LABELS.place,
+    ACCURACY.place,
+    SORTING.place,
+    EPSG.place,
+    EPSG.place,
+    EPSG.place + 1,
+    EPSG.after() - 1,
+    NORTH.place,
+    NORTH.after() - 1,
+    EAST.place,
+    EAST.after() - 1,
+];
 
 /// A text one too long, much too long, or with a zero in it.
 fn alter_text(numbers: &mut Numbers, text: &mut Vec<u8>, most: usize) {
@@ -88,7 +102,8 @@ fn alter_byte(numbers: &mut Numbers, byte: u8) -> u8 {
     }
 }
 
-/// Numbers at which fields end, and others.
+/// Numbers about the ends of fields of one to eight bytes, and some that go
+/// round 2^64 when they are multiplied by what a part or an item has.
 pub const EDGES: [u64; 24] = [
     0,
     1,
@@ -127,31 +142,37 @@ fn alter_number(numbers: &mut Numbers, number: u64) -> u64 {
     }
 }
 
-/// One number of the table, the columns of a row, of its parts and of its
-/// items as likely as each other.
+/// The numbers of a record, the reference bytes as likely as four others.
+const COLUMNS: [usize; 11] =
+    [CODE, IN_GROUP, GROUP, REFERENCE, REFERENCE, REFERENCE, REFERENCE, GENERALISATION, WORD, PARTS, ITEMS];
+
+/// One number of the table: a record's own, one of its parts and one of its
+/// items are as likely as each other.
 fn number_damage(numbers: &mut Numbers, table: &mut Table, rows: &[usize]) -> String {
     let row = numbers.pick(rows);
-    let columns = table.numbers.get(row..row + 8);
-    let parts = columns.map_or(1, |columns| columns[6]).clamp(1, 100_000) as usize;
-    let items = columns.map_or(0, |columns| columns[7]).min(100_000) as usize;
+    let columns = table.numbers.get(row..row + ROW_WIDTH);
+    let parts = columns.map_or(1, |columns| columns[PARTS]).clamp(1, 100_000) as usize;
+    let items = columns.map_or(0, |columns| columns[ITEMS]).min(100_000) as usize;
+    let parts_at = row + ROW_WIDTH;
+    let items_at = parts_at + PART_WIDTH * parts;
     let at = match numbers.below(3) {
-        0 => row + 8 + numbers.index(2 * parts),
-        1 if items > 0 => row + 8 + 2 * parts + numbers.index(4 * items),
-        _ => row + numbers.pick(&[0, 1, 2, 3, 3, 3, 3, 4, 5, 6, 7]),
+        0 => parts_at + numbers.index(PART_WIDTH * parts),
+        1 if items > 0 => items_at + numbers.index(ITEM_WIDTH * items),
+        _ => row + numbers.pick(&COLUMNS),
     };
     let Some(&number) = table.numbers.get(at) else {
         return "none".into();
     };
-    let in_items = at.checked_sub(row + 8 + 2 * parts);
-    let is_item = |column: usize| in_items.is_some_and(|items| items % 4 == column);
-    let new = if at == row + 3 && numbers.chance(2, 3) {
+    let in_items = at.checked_sub(items_at);
+    let is_item = |column: usize| in_items.is_some_and(|within| within % ITEM_WIDTH == column);
+    let new = if at == row + REFERENCE && numbers.chance(2, 3) {
         alter_reference(numbers, number)
-    } else if is_item(1) && numbers.chance(3, 4) {
+    } else if is_item(ITEM_TYPE) && numbers.chance(3, 4) {
         let any = numbers.below(256);
         numbers.pick(&[0, 1, 2, 3, 4, 8, 126, 127, 128, any])
-    } else if is_item(2) && numbers.chance(1, 3) {
+    } else if is_item(ITEM_SCALE) && numbers.chance(1, 3) {
         numbers.pick(&[0, 0x7F, 0x80, 0xFE, 0xFF])
-    } else if is_item(3) && numbers.chance(1, 3) {
+    } else if is_item(ITEM_LENGTH) && numbers.chance(1, 3) {
         numbers.pick(&[0, 1, 2, 3, 4, 8, 0xFFFF_FFFF])
     } else {
         alter_number(numbers, number)
@@ -164,17 +185,17 @@ fn number_damage(numbers: &mut Numbers, table: &mut Table, rows: &[usize]) -> St
 fn alter_reference(numbers: &mut Numbers, reference: u64) -> u64 {
     let (one, other) = (1 << numbers.below(24), 1 << numbers.below(24));
     let any = numbers.any() & 0xFF_FFFF;
-    reference ^ numbers.pick(&[one, one | other, any, 1 << 11, 1 << 20])
+    reference ^ numbers.pick(&[one, one | other, any, bits::BINDING_VECTOR, bits::GRAPHICS])
 }
 
 /// Counts of parts and items near 2^64, and such that what they call for
 /// comes round to the right number again.
 fn counts_damage(numbers: &mut Numbers, table: &mut Table, rows: &[usize]) -> String {
     let row = numbers.pick(rows);
-    let Some(columns) = table.numbers.get_mut(row..row + 8) else {
+    let Some(columns) = table.numbers.get_mut(row..row + ROW_WIDTH) else {
         return "none".into();
     };
-    let (parts, items) = (columns[6], columns[7]);
+    let (parts, items) = (columns[PARTS], columns[ITEMS]);
     let (more_parts, more_items) = numbers.pick(&[
         (1 << 63, 0),
         (0, 1 << 62),
@@ -192,27 +213,27 @@ fn counts_damage(numbers: &mut Numbers, table: &mut Table, rows: &[usize]) -> St
         (65536 - parts.min(65536), 0),
         (65537 - parts.min(65537), 0),
     ]);
-    columns[6] = parts.wrapping_add(more_parts);
-    columns[7] = items.wrapping_add(more_items);
-    format!("row {row}: {} parts, {} items", columns[6], columns[7])
+    columns[PARTS] = parts.wrapping_add(more_parts);
+    columns[ITEMS] = items.wrapping_add(more_items);
+    format!("row {row}: {} parts, {} items", columns[PARTS], columns[ITEMS])
 }
 
 /// Counts of points about the mark, and words that agree or do not.
 fn mark_damage(numbers: &mut Numbers, table: &mut Table, rows: &[usize]) -> String {
     let row = numbers.pick(rows);
-    if table.numbers.len() < row + 10 {
+    if table.numbers.len() < row + ROW_WIDTH + PART_WIDTH {
         return "none".into();
     }
-    let parts = table.numbers[row + 6].clamp(1, 100_000) as usize;
+    let parts = table.numbers[row + PARTS].clamp(1, 100_000) as usize;
     let count = numbers.pick(&[65534, 65535, 65536, 131_072, 0xFFFF_FFFF, 1 << 32]);
     let part = if numbers.chance(2, 3) { 0 } else { numbers.index(parts) };
-    let at = row + 8 + 2 * part;
+    let at = row + ROW_WIDTH + PART_WIDTH * part + POINTS;
     if let Some(points) = table.numbers.get_mut(at) {
         *points = count;
     }
-    let word = table.numbers[row + 5];
-    table.numbers[row + 5] = numbers.pick(&[word, count, count, count + 1, count - 1]);
-    format!("points {count} at {at}, the word {}", table.numbers[row + 5])
+    let word = table.numbers[row + WORD];
+    table.numbers[row + WORD] = numbers.pick(&[word, count, count, count + 1, count - 1]);
+    format!("points {count} at {at}, the word {}", table.numbers[row + WORD])
 }
 
 fn cut_damage(numbers: &mut Numbers, table: &mut Table) -> String {
@@ -292,7 +313,7 @@ fn bytes_damage(numbers: &mut Numbers, table: &mut Table) -> String {
     }
 }
 
-/// A closing zero of a value that is none.
+/// Another byte in place of a zero, which may have closed a value.
 fn closing_damage(numbers: &mut Numbers, table: &mut Table, rows: &[usize]) -> String {
     let zeros = table.bytes.iter().filter(|&&byte| byte == 0).count();
     if zeros == 0 || rows.is_empty() {

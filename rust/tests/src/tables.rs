@@ -3,6 +3,9 @@
 use crate::heads::uses;
 use crate::numbers::Numbers;
 use second::Table;
+use sxf_sys::reference as bits;
+use sxf_sys::row::{self, ITEMS, ITEM_WIDTH, PART_WIDTH};
+use sxf_sys::{years, MARK};
 
 /// How large the records of a table are.
 #[derive(Clone, Copy)]
@@ -27,11 +30,9 @@ pub struct Widths {
 
 /// What the widths are for a reference number.
 pub fn widths(reference: u64) -> Widths {
-    let large = reference >> 10 & 1;
-    let floating = reference >> 18 & 1;
-    let three = reference >> 17 & 1;
-    let planar = 2 << (large + floating);
-    Widths { planar, height: three as u32 * planar.max(4) }
+    let has = |bit: u64| u32::from(reference & bit != 0);
+    let planar = 2 << (has(bits::ELEMENT_SIZE) + has(bits::FLOATING));
+    Widths { planar, height: has(bits::THREE_DIMENSIONS) * planar.max(4) }
 }
 
 impl Widths {
@@ -46,7 +47,7 @@ impl Widths {
 
 /// Whether each part of a record with this reference ends with a text.
 pub fn has_text(reference: u64) -> bool {
-    reference >> 19 & 1 == 1
+    reference & bits::TEXT_IN_METRIC != 0
 }
 
 /// A table with no feature later than the year.
@@ -66,43 +67,46 @@ pub fn table(numbers: &mut Numbers, year: u32, sizes: Sizes) -> Table {
     table
 }
 
-/// A reference number.
+/// The spline is bits 6 and 7 of byte 22, and each is drawn by itself.
+pub const SPLINE_BIT_6: u64 = 1 << 22;
+pub const SPLINE_BIT_7: u64 = 1 << 23;
+
+/// A reference number with no feature later than the year.
 pub fn reference(numbers: &mut Numbers, year: u32, semantics: bool) -> u64 {
     let localisation = numbers.below(6);
     let mut reference = localisation;
-    let mut set = |bit: u32, on: bool| reference |= u64::from(on) << bit;
-    set(4, uses(numbers, 2016, year));
-    set(8, uses(numbers, 2015, year));
-    set(9, semantics);
-    set(10, numbers.chance(1, 2));
-    set(12, uses(numbers, 2008, year));
-    set(13, uses(numbers, 2014, year));
-    set(14, uses(numbers, 2014, year));
-    set(15, uses(numbers, 2017, year));
-    set(17, numbers.chance(1, 2));
-    set(18, numbers.chance(1, 2));
-    set(19, matches!(localisation, 3 | 5) && numbers.chance(2, 3));
-    set(21, numbers.chance(1, 4));
-    set(22, uses(numbers, 2004, year));
-    set(23, uses(numbers, 2004, year));
+    let mut set = |bit: u64, on: bool| reference |= if on { bit } else { 0 };
+    set(bits::MULTIPOLYGON, uses(numbers, years::MULTIPOLYGON, year));
+    set(bits::COMPRESSED_GRAPHICS, uses(numbers, years::COMPRESSED_GRAPHICS, year));
+    set(bits::SEMANTICS, semantics);
+    set(bits::ELEMENT_SIZE, numbers.chance(1, 2));
+    set(bits::UNICODE, uses(numbers, years::UNICODE, year));
+    set(bits::ABOVE_ALL, uses(numbers, years::ABOVE_ALL, year));
+    set(bits::BELOW_ALL, uses(numbers, years::BELOW_ALL, year));
+    set(bits::VERTICAL_ALIGNMENT, uses(numbers, years::VERTICAL_ALIGNMENT, year));
+    set(bits::THREE_DIMENSIONS, numbers.chance(1, 2));
+    set(bits::FLOATING, numbers.chance(1, 2));
+    set(bits::TEXT_IN_METRIC, matches!(localisation, 3 | 5) && numbers.chance(2, 3));
+    set(bits::SCALABLE, numbers.chance(1, 4));
+    set(SPLINE_BIT_6, uses(numbers, years::SPLINE_BITS, year));
+    set(SPLINE_BIT_7, uses(numbers, years::SPLINE_BITS, year));
     reference
 }
 
-/// A record's row and its parts with these counts of points; items are to
-/// follow. A first count of 65535 or more is the word.
+/// Adds a record's row and its parts with these counts of points; items are
+/// to follow. Where the first count needs the mark, the word is that count.
 pub fn record(table: &mut Table, numbers: &mut Numbers, reference: u64, word: u64, points: &[u64]) {
-    let word = if points[0] >= 65535 { points[0] } else { word };
-    let row = [
-        numbers.of_bits(32),
-        numbers.of_bits(16),
-        numbers.of_bits(16),
+    let record = row::Record {
+        code: numbers.of_bits(32),
+        in_group: numbers.of_bits(16),
+        group: numbers.of_bits(16),
         reference,
-        numbers.of_bits(8),
-        word,
-        points.len() as u64,
-        0,
-    ];
-    table.numbers.extend_from_slice(&row);
+        generalisation: numbers.of_bits(8),
+        word: if points[0] >= MARK { points[0] } else { word },
+        parts: points.len() as u64,
+        items: 0,
+    };
+    table.numbers.extend(record.numbers());
     for &count in points {
         part(table, numbers, reference, count);
     }
@@ -128,33 +132,37 @@ fn part(table: &mut Table, numbers: &mut Numbers, reference: u64, count: u64) {
         1 => numbers.below(256),
         _ => numbers.below(12),
     };
-    table.numbers.extend_from_slice(&[count, length]);
+    table.numbers.extend(row::Part { points: count, text_length: length }.numbers());
     let text = bytes(numbers, length);
     table.bytes.extend_from_slice(&text);
 }
 
-/// The index in the table of the last record's row.
-fn last_row(table: &Table) -> usize {
-    let mut row = 0;
-    loop {
-        let next = row + row_numbers(table, row);
-        if next >= table.numbers.len() {
-            return row;
-        }
-        row = next;
-    }
+/// The numbers of one record in a table.
+pub struct Row<'a> {
+    /// The index of the first of them.
+    pub index: usize,
+    pub record: row::Record,
+    pub parts: &'a [[u64; PART_WIDTH]],
+    pub items: &'a [[u64; ITEM_WIDTH]],
 }
 
-/// How many numbers the record at an index has with its parts and items.
-pub fn row_numbers(table: &Table, row: usize) -> usize {
-    let parts = table.numbers[row + 6] as usize;
-    let items = table.numbers[row + 7] as usize;
-    8 + 2 * parts + 4 * items
+/// The rows of a table whose counts of parts and items are right.
+pub fn rows(table: &Table) -> impl Iterator<Item = Row<'_>> {
+    let mut index = 0;
+    std::iter::from_fn(move || {
+        let (record, after) = table.numbers[index..].split_first_chunk()?;
+        let record = row::Record::of(record);
+        let (parts, after) = after.split_at(PART_WIDTH * record.parts as usize);
+        let items = &after[..ITEM_WIDTH * record.items as usize];
+        let row = Row { index, record, parts: parts.as_chunks().0, items: items.as_chunks().0 };
+        index += row::row_size(row.parts.len(), row.items.len());
+        Some(row)
+    })
 }
 
 /// Adds an item of any type to the last record.
 pub fn item(table: &mut Table, numbers: &mut Numbers, year: u32) {
-    let types: &[u64] = if year >= 2012 { &[0, 126, 127, 1, 2, 4, 8, 128, 128] } else { &[0, 126, 127, 1, 2, 4, 8] };
+    let types: &[u64] = if year >= years::TYPE_128 { &[0, 126, 127, 1, 2, 4, 8, 128, 128] } else { &[0, 126, 127, 1, 2, 4, 8] };
     let kind = numbers.pick(types);
     let any = numbers.below(256);
     let few = numbers.mostly(9, 255);
@@ -171,10 +179,10 @@ pub fn item(table: &mut Table, numbers: &mut Numbers, year: u32) {
 
 /// Adds this item to the last record, its value closed as its type asks.
 pub fn item_of(table: &mut Table, numbers: &mut Numbers, kind: u64, scale: u64, length: u64) {
-    let row = last_row(table);
-    table.numbers[row + 7] += 1;
+    let last = rows(table).last().map_or(0, |row| row.index);
+    table.numbers[last + ITEMS] += 1;
     let code = numbers.of_bits(16);
-    table.numbers.extend_from_slice(&[code, kind, scale, length]);
+    table.numbers.extend(row::Item { code, kind, scale, length }.numbers());
     let mut value = bytes(numbers, length);
     let zeros = closing_zeros(kind);
     let text = value.len() - zeros;

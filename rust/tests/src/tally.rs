@@ -2,6 +2,9 @@
 
 use crate::features;
 use std::collections::BTreeMap;
+use sxf_sys::fields::{descriptor, header, passport};
+use sxf_sys::refusals::*;
+use sxf_sys::{row, years};
 
 /// The archive's calls.
 #[derive(Clone, Copy, PartialEq, Eq, PartialOrd, Ord, Debug)]
@@ -33,27 +36,35 @@ impl Call {
     /// The refusals that the call can give.
     pub fn refusals(self) -> &'static [u64] {
         match self {
-            Call::Check | Call::RecordAt | Call::HeadOf | Call::UnitOf | Call::CornersOf => {
-                &[1, 2, 3, 4, 5, 6, 7, 8, 9, 10, 11, 12, 13, 16]
-            }
-            Call::Unfold => &[1, 2, 3, 4, 5, 6, 7, 8, 9, 10, 11, 12, 13, 15, 16],
-            Call::Write => &[1, 6, 7, 8, 9, 11, 12, 14, 15, 16],
-            Call::ValueOf => &[12],
+            Call::Check | Call::RecordAt | Call::HeadOf | Call::UnitOf | Call::CornersOf => &OF_SHEETS,
+            Call::Unfold => &OF_UNFOLDING,
+            Call::Write => &[TOO_LONG, TEXT, RESERVED, TOO_NEW, NOT_CARRIED, COUNT, SEMANTIC, TABLE, ROOM, ASK],
+            Call::ValueOf => &[SEMANTIC],
             Call::VisibilityOf => &[],
         }
     }
 }
 
+#[rustfmt::skip]
+const OF_SHEETS: [u64; 14] = [
+    TOO_LONG, SHORT, NOT_SXF, EDITION, SUM, TEXT, RESERVED, TOO_NEW, NOT_CARRIED, LENGTH, COUNT, SEMANTIC, LEFT_OVER, ASK,
+];
+
+#[rustfmt::skip]
+const OF_UNFOLDING: [u64; 15] = [
+    TOO_LONG, SHORT, NOT_SXF, EDITION, SUM, TEXT, RESERVED, TOO_NEW, NOT_CARRIED, LENGTH, COUNT, SEMANTIC, LEFT_OVER, ROOM, ASK,
+];
+
 /// The refusals' numbers, and 0 for an answer that is none.
-pub const NUMBERS: usize = 17;
+pub const NUMBERS: usize = ASK as usize + 1;
 
 /// Where a refusal stands.
 #[derive(Clone, Copy, PartialEq, Eq, PartialOrd, Ord, Debug)]
 pub enum Where {
     /// At this place before the records, or in what is written there.
-    Head(u64),
+    Head(usize),
     /// At this byte of a record's header.
-    Header(u64),
+    Header(usize),
     /// Within a record's metric.
     Metric,
     /// Where a record's metric ends.
@@ -62,16 +73,16 @@ pub enum Where {
     Semantics,
     /// After the last record.
     After,
-    /// At this number of a row.
-    Row(u64),
+    /// At this column of a record's row.
+    Row(usize),
     /// At the points of a first part.
     FirstPoints,
     /// At the points of a later part.
     LaterPoints,
     /// At a text length.
     TextLength,
-    /// At this number of an item.
-    Item(u64),
+    /// At this column of an item.
+    Item(usize),
     /// At the table's length.
     TableEnd,
     /// At a lent slice.
@@ -102,11 +113,11 @@ pub struct Reason {
 pub struct Tally {
     pub answers: [[u64; NUMBERS]; CALLS.len()],
     pub reasons: BTreeMap<Reason, u64>,
-    /// What was accepted.
+    /// The features of what was accepted.
     pub features: [u64; features::COUNT],
     /// The units that were answered, 1 to 5.
     pub units: [u64; 6],
-    /// The first corner that was no number, from 1, or 0 for none.
+    /// By the first corner that was a NaN, counted from 1; at 0 there was none.
     pub nans: [u64; 9],
 }
 
@@ -173,76 +184,121 @@ impl Tally {
     }
 }
 
+/// A refusal, the year of its feature or 0, and places where it stands.
+type Stated<'a> = (u64, u32, &'a [Where]);
+
+fn reasons(way: Way, stated: &[Stated]) -> Vec<Reason> {
+    let each = |&(number, year, places): &Stated| {
+        let reason = move |&at: &Where| Reason { way, number, at, year: u64::from(year) };
+        places.iter().map(reason).collect::<Vec<_>>()
+    };
+    stated.iter().flat_map(each).collect()
+}
+
 /// The reasons that document 01 names, told apart by their places.
 pub fn due() -> Vec<Reason> {
-    let mut due = Vec::new();
-    let mut all = |way: Way, number: u64, year: u64, places: &[Where]| {
-        due.extend(places.iter().map(|&at| Reason { way, number, at, year }));
-    };
-    use Way::{Read, Write};
-    use Where::*;
-    all(Read, 1, 0, &[Head(0)]);
-    all(Read, 2, 0, &[Head(0), Header(0), Header(4)]);
-    all(Read, 3, 0, &[Head(0), Head(400), Header(0)]);
-    all(Read, 4, 0, &[Head(4), Head(8), Head(404)]);
-    all(Read, 5, 0, &[Head(12)]);
-    all(Read, 6, 0, &TEXTS);
-    all(Read, 6, 0, &[Metric, Semantics]);
-    all(Read, 7, 0, &FLAGS);
-    all(Read, 7, 0, &[Head(448), Header(20), Header(22)]);
-    all(Read, 9, 0, &[Header(21), Header(22)]);
-    let lengths = [Header(4), Header(8), Metric, MetricEnd, Semantics];
-    all(Read, 10, 0, &lengths);
-    all(Read, 11, 0, &[Header(24), Metric]);
-    all(Read, 12, 0, &[Semantics]);
-    all(Read, 13, 0, &[After]);
-    all(Read, 15, 0, &[Lent(1), Lent(2), Lent(3)]);
-    all(Read, 16, 0, &[Asked]);
-
-    all(Write, 1, 0, &[Asked]);
-    all(Write, 6, 0, &TEXTS);
-    all(Write, 6, 0, &[Item(3)]);
-    all(Write, 7, 0, &FLAGS);
-    all(Write, 7, 0, &[Row(3)]);
-    all(Write, 9, 0, &[Row(3)]);
-    all(Write, 11, 0, &[FirstPoints, LaterPoints]);
-    all(Write, 12, 0, &[Item(1), Item(2), Item(3)]);
-    all(Write, 14, 0, &(0..8).map(Row).collect::<Vec<_>>());
-    all(Write, 14, 0, &[FirstPoints, LaterPoints, TextLength]);
-    all(Write, 14, 0, &[Item(0), Item(1), Item(2), Item(3)]);
-    all(Write, 14, 0, &[TableEnd]);
-    all(Write, 15, 0, &[Asked]);
-    all(Write, 16, 0, &[Asked]);
-
-    for way in [Read, Write] {
-        all(way, 8, 2004, &[Head(384), Head(392)]);
-        all(way, 8, 2006, &[Head(98)]);
-        all(way, 8, 2008, &[Head(99)]);
-        all(way, 8, 2017, &[Head(100), Head(447)]);
-    }
-    all(Read, 8, 2016, &[Header(20)]);
-    for year in [2008, 2014, 2015, 2017] {
-        all(Read, 8, year, &[Header(21)]);
-    }
-    all(Read, 8, 2004, &[Header(22), Header(30)]);
-    for year in [2004, 2008, 2014, 2015, 2016, 2017] {
-        all(Write, 8, year, &[Row(3)]);
-    }
-    all(Write, 8, 2004, &[FirstPoints]);
-    all(Write, 8, 2012, &[Item(1)]);
-    all(Read, 8, 2012, &[Semantics]);
+    let mut due = reasons(Way::Read, &OF_HEADS);
+    due.extend(reasons(Way::Write, &OF_HEADS));
+    due.extend(reasons(Way::Read, &OF_READING));
+    due.extend(reasons(Way::Write, &OF_WRITING));
     due
 }
 
-const TEXTS: [Where; 4] = [Where::Head(16), Where::Head(28), Where::Head(64), Where::Head(408)];
+use Where::{
+    After, Asked, FirstPoints, Head, Header, Item, LaterPoints, Lent, Metric, MetricEnd, Row, Semantics, TableEnd, TextLength,
+};
 
-const FLAGS: [Where; 8] = [
-    Where::Head(96),
-    Where::Head(97),
-    Where::Head(98),
-    Where::Head(99),
-    Where::Head(444),
-    Where::Head(445),
-    Where::Head(446),
-    Where::Head(447),
+/// The texts, and what is carried: reader and writer refuse the same.
+const OF_HEADS: [Stated; 6] = [
+    (
+        TEXT,
+        0,
+        &[
+            Head(passport::DATE.place),
+            Head(passport::DESIGNATION.place),
+            Head(passport::TITLE.place),
+            Head(descriptor::DESIGNATION.place),
+        ],
+    ),
+    (
+        RESERVED,
+        0,
+        &[
+            Head(passport::FLAGS.place),
+            Head(passport::LABELS.place),
+            Head(passport::ACCURACY.place),
+            Head(passport::SORTING.place),
+            Head(descriptor::FLAGS.place),
+            Head(descriptor::LABELS.place),
+            Head(descriptor::SECRECY.place),
+            Head(descriptor::KEEPING.place),
+        ],
+    ),
+    (TOO_NEW, years::NORTH_OFFSET, &[Head(passport::NORTH.place), Head(passport::EAST.place)]),
+    (TOO_NEW, years::ACCURACY_SET, &[Head(passport::ACCURACY.place)]),
+    (TOO_NEW, years::SPECIAL_SORTING, &[Head(passport::SORTING.place)]),
+    (TOO_NEW, years::EPSG_SET, &[Head(passport::EPSG.place), Head(descriptor::KEEPING.place)]),
+];
+
+/// The rest that the reader refuses.
+const OF_READING: [Stated; 22] = [
+    (TOO_LONG, 0, &[Head(0)]),
+    (SHORT, 0, &[Head(0), Header(0), Header(header::TOTAL.place)]),
+    (NOT_SXF, 0, &[Head(passport::IDENTIFIER.place), Head(descriptor::IDENTIFIER.place), Header(header::IDENTIFIER.place)]),
+    (EDITION, 0, &[Head(passport::OWN_LENGTH.place), Head(passport::EDITION.place), Head(descriptor::OWN_LENGTH.place)]),
+    (SUM, 0, &[Head(passport::SUM.place)]),
+    (TEXT, 0, &[Metric, Semantics]),
+    (RESERVED, 0, &[Head(descriptor::RESERVED.place), Header(header::BYTE20.place), Header(header::BYTE22.place)]),
+    (TOO_NEW, years::MULTIPOLYGON, &[Header(header::BYTE20.place)]),
+    (TOO_NEW, years::UNICODE, &[Header(header::BYTE21.place)]),
+    (TOO_NEW, years::ABOVE_ALL, &[Header(header::BYTE21.place)]),
+    (TOO_NEW, years::COMPRESSED_GRAPHICS, &[Header(header::BYTE21.place)]),
+    (TOO_NEW, years::VERTICAL_ALIGNMENT, &[Header(header::BYTE21.place)]),
+    (TOO_NEW, years::SPLINE_BITS, &[Header(header::BYTE22.place)]),
+    (TOO_NEW, years::MARK_65535, &[Header(header::POINTS.place)]),
+    (TOO_NEW, years::TYPE_128, &[Semantics]),
+    (NOT_CARRIED, 0, &[Header(header::BYTE21.place), Header(header::BYTE22.place)]),
+    (LENGTH, 0, &[Header(header::TOTAL.place), Header(header::METRIC.place), Metric, MetricEnd, Semantics]),
+    (COUNT, 0, &[Header(header::WORD.place), Metric]),
+    (SEMANTIC, 0, &[Semantics]),
+    (LEFT_OVER, 0, &[After]),
+    (ROOM, 0, &[Lent(1), Lent(2), Lent(3)]),
+    (ASK, 0, &[Asked]),
+];
+
+/// The rest that the writer refuses.
+const OF_WRITING: [Stated; 20] = [
+    (TOO_LONG, 0, &[Asked]),
+    (TEXT, 0, &[Item(row::ITEM_LENGTH)]),
+    (RESERVED, 0, &[Row(row::REFERENCE)]),
+    (TOO_NEW, years::SPLINE_BITS, &[Row(row::REFERENCE)]),
+    (TOO_NEW, years::UNICODE, &[Row(row::REFERENCE)]),
+    (TOO_NEW, years::ABOVE_ALL, &[Row(row::REFERENCE)]),
+    (TOO_NEW, years::COMPRESSED_GRAPHICS, &[Row(row::REFERENCE)]),
+    (TOO_NEW, years::MULTIPOLYGON, &[Row(row::REFERENCE)]),
+    (TOO_NEW, years::VERTICAL_ALIGNMENT, &[Row(row::REFERENCE)]),
+    (TOO_NEW, years::MARK_65535, &[FirstPoints]),
+    (TOO_NEW, years::TYPE_128, &[Item(row::ITEM_TYPE)]),
+    (NOT_CARRIED, 0, &[Row(row::REFERENCE)]),
+    (COUNT, 0, &[FirstPoints, LaterPoints]),
+    (SEMANTIC, 0, &[Item(row::ITEM_TYPE), Item(row::ITEM_SCALE), Item(row::ITEM_LENGTH)]),
+    (
+        TABLE,
+        0,
+        &[
+            Row(row::CODE),
+            Row(row::IN_GROUP),
+            Row(row::GROUP),
+            Row(row::REFERENCE),
+            Row(row::GENERALISATION),
+            Row(row::WORD),
+            Row(row::PARTS),
+            Row(row::ITEMS),
+        ],
+    ),
+    (TABLE, 0, &[FirstPoints, LaterPoints, TextLength]),
+    (TABLE, 0, &[Item(row::ITEM_CODE), Item(row::ITEM_TYPE), Item(row::ITEM_SCALE), Item(row::ITEM_LENGTH)]),
+    (TABLE, 0, &[TableEnd]),
+    (ROOM, 0, &[Asked]),
+    (ASK, 0, &[Asked]),
 ];

@@ -117,7 +117,7 @@ fn head_e() -> Head {
         title: vec![],
         rest,
         designation2: b"A".to_vec(),
-        flags: [3, 0, 0, 0],
+        carried: [3, 0, 0, 0],
     }
 }
 

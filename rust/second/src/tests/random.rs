@@ -101,7 +101,7 @@ fn head_by_chance(chance: &mut Chance) -> Head {
         *byte = chance.next() as u8;
     }
     head.title = vec![b'x'; chance.below(32) as usize];
-    head.flags = [0x87, 1, 4, chance.below(4) as u8];
+    head.carried = [0x87, 1, 4, chance.below(4) as u8];
     head
 }
 

@@ -80,7 +80,7 @@ fn head_by_place() {
         head.rest[4] = 1;
         head.rest[303] = 1;
         head.designation2 = vec![0];
-        head.flags = [3, 3, 6, 1];
+        head.carried = [3, 3, 6, 1];
         head
     };
     let mut head = faulty();
@@ -93,9 +93,9 @@ fn head_by_place() {
     next(|head| head.rest[4] = 0, too_new(100, 2017));
     next(|head| head.rest[303] = 0, too_new(392, 2004));
     next(|head| head.designation2.clear(), refused(6, 408));
-    next(|head| head.flags[1] = 2, refused(7, 445));
-    next(|head| head.flags[2] = 5, refused(7, 446));
-    next(|head| head.flags[3] = 0, too_new(447, 2017));
+    next(|head| head.carried[1] = 2, refused(7, 445));
+    next(|head| head.carried[2] = 5, refused(7, 446));
+    next(|head| head.carried[3] = 0, too_new(447, 2017));
     assert!(write(1999, &head, &table_p(), ROOM).is_ok());
 }
 

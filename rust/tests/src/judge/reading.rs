@@ -1,11 +1,13 @@
 //! Everything that is asked of a sheet.
 
 use super::{hex, refusal_of, table_sizes, Care, Judge, TOLD};
+use crate::archive;
 use crate::numbers::Numbers;
-use crate::raw;
 use crate::reasons;
 use crate::tally::{Call, Reason, Way, Where};
 use second::{Reading, Refusal, Sizes, Table};
+use sxf_sys::fields::passport::CORNERS;
+use sxf_sys::{refusals, units};
 
 impl Judge {
     /// Reads a sheet at several years; the first says whether the case is
@@ -39,7 +41,7 @@ impl Judge {
             Ok(reading) => self.meet_features(&reading.head, &reading.table),
             Err(refusal) => self.meet_reason(reasons::of_sheet(sheet, *refusal)),
         }
-        let answer = raw::check(sheet, year);
+        let answer = archive::check(sheet, year);
         self.meet(Call::Check, answer.number);
         self.same(|| format!("check at {year}"), answer, checked(second::check(sheet, year)));
         self.same(|| format!("check at {year}, held against what is read"), answer, checked(sizes(&due)));
@@ -86,7 +88,8 @@ impl Judge {
 
     /// Unfolds into slices of these lengths.
     pub fn unfold(&mut self, sheet: &[u8], year: u32, due: &Result<Reading, Refusal>, rooms: [usize; 3]) {
-        let answer = raw::unfold(sheet, year, self.table.lend(rooms[0]), self.elements.lend(rooms[1]), self.bytes.lend(rooms[2]));
+        let answer =
+            archive::unfold(sheet, year, self.table.lend(rooms[0]), self.elements.lend(rooms[1]), self.bytes.lend(rooms[2]));
         self.meet(Call::Unfold, answer.number);
         let mut expected = checked(sizes(due));
         let none = Table::default();
@@ -96,7 +99,7 @@ impl Judge {
             let sizes = table_sizes(written);
             if let Some(first) = (0..3).find(|&slice| rooms[slice] < sizes[slice]) {
                 let place = first as u64 + 1;
-                expected = raw::Checked { number: Refusal::ROOM, place, ..raw::Checked::default() };
+                expected = archive::Checked { number: Refusal::ROOM, place, ..archive::Checked::default() };
                 written = &none;
                 self.meet_reason(Reason { way: Way::Read, number: Refusal::ROOM, at: Where::Lent(place), year: 0 });
             }
@@ -126,13 +129,10 @@ impl Judge {
 
     /// Asks for one record.
     pub fn record_at(&mut self, sheet: &[u8], year: u32, number: u64) {
-        let answer = raw::record_at(sheet, year, number);
+        let answer = archive::record_at(sheet, year, number);
         self.meet(Call::RecordAt, answer.number);
         let expected = match second::record_at(sheet, year, number) {
-            Ok(record) => raw::Record {
-                number: 0,
-                place: 0,
-                year: 0,
+            Ok(record) => archive::Record {
                 at: record.at,
                 total: record.total,
                 code: record.code,
@@ -144,9 +144,10 @@ impl Judge {
                 parts: record.parts,
                 items: record.items,
                 points: record.points,
+                ..archive::Record::default()
             },
             Err(refusal) => {
-                raw::Record { number: refusal.number, place: refusal.place, year: refusal.year, ..raw::Record::default() }
+                archive::Record { number: refusal.number, place: refusal.place, year: refusal.year, ..archive::Record::default() }
             }
         };
         let asked = || format!("record {number} at {year}");
@@ -155,11 +156,11 @@ impl Judge {
 
     /// Asks for head, unit and corners.
     pub(super) fn head_of(&mut self, sheet: &[u8], year: u32, due: &Result<Reading, Refusal>) {
-        let answer = raw::head_of(sheet, year);
+        let answer = archive::head_of(sheet, year);
         self.meet(Call::HeadOf, answer.number);
         let refusal = refusal_of(due);
         let mut expected =
-            raw::HeadLengths { number: refusal.number, place: refusal.place, year: refusal.year, ..raw::HeadLengths::default() };
+            archive::Head { number: refusal.number, place: refusal.place, year: refusal.year, ..archive::Head::default() };
         if let Ok(Reading { head, .. }) = due {
             expected.date = head.date.len() as u64;
             expected.designation = head.designation.len() as u64;
@@ -173,49 +174,46 @@ impl Judge {
     }
 
     fn unit_of(&mut self, sheet: &[u8], year: u32) {
-        let answer = raw::unit_of(sheet, year);
+        let answer = archive::unit_of(sheet, year);
         self.meet(Call::UnitOf, answer.number);
         let due = second::unit(sheet, year);
         let refusal = refusal_of(&due);
         let (unit, byte) = match due {
-            Ok(second::Unit::DevicePoints) => (1, 0),
-            Ok(second::Unit::Metres) => (2, 0),
-            Ok(second::Unit::Radians) => (3, 0),
-            Ok(second::Unit::Degrees) => (4, 0),
-            Ok(second::Unit::Unknown(byte)) => (5, u64::from(byte)),
+            Ok(second::Unit::DevicePoints) => (units::DEVICE_POINTS, 0),
+            Ok(second::Unit::Metres) => (units::METRES, 0),
+            Ok(second::Unit::Radians) => (units::RADIANS, 0),
+            Ok(second::Unit::Degrees) => (units::DEGREES, 0),
+            Ok(second::Unit::Unknown(byte)) => (units::UNKNOWN_UNIT, u64::from(byte)),
             Err(_) => (0, 0),
         };
-        let expected = raw::Unit { number: refusal.number, place: refusal.place, year: refusal.year, unit, byte };
+        let expected = archive::Unit { number: refusal.number, place: refusal.place, year: refusal.year, unit, byte };
         self.met.units[unit as usize] = 1;
         self.same(|| format!("unit at {year}"), answer, expected);
     }
 
     fn corners_of(&mut self, sheet: &[u8], year: u32) {
-        let answer = raw::corners_of(sheet, year);
+        let answer = archive::corners_of(sheet, year);
         self.meet(Call::CornersOf, answer.number);
         let due = second::corners(sheet, year);
         let refusal = refusal_of(&due);
         let corners = due.unwrap_or([0; 8]);
         let first = corners.iter().position(|&bits| f64::from_bits(bits).is_nan());
-        if refusal.number == 0 {
+        if refusal.number == refusals::OK {
             self.met.nans[first.map_or(0, |number| number + 1)] = 1;
         }
-        let expected = raw::Corners {
-            number: refusal.number,
-            place: refusal.place,
-            year: refusal.year,
-            nan_at: first.map_or(0, |number| 104 + 8 * number as u64),
-            corners,
-        };
+        let [sw_x, sw_y, nw_x, nw_y, ne_x, ne_y, se_x, se_y] = corners;
+        let Refusal { number, place, year: since } = refusal;
+        let nan_at = first.map_or(0, |number| (CORNERS.place + 8 * number) as u64);
+        let expected = archive::Corners { number, place, year: since, nan_at, sw_x, sw_y, nw_x, nw_y, ne_x, ne_y, se_x, se_y };
         self.same(|| format!("corners at {year}"), answer, expected);
     }
 
     /// What was unfolded from a sheet is written to the same bytes.
     fn writes_back(&mut self, sheet: &[u8], year: u32, reading: &Reading) {
         let out = self.out.lend(sheet.len());
-        let answer = raw::write(year, &reading.head, &reading.table, out);
+        let answer = archive::write(year, &reading.head, &reading.table, out);
         self.meet(Call::Write, answer.number);
-        let expected = raw::Written { length: sheet.len() as u64, ..raw::Written::default() };
+        let expected = archive::Written { length: sheet.len() as u64, ..archive::Written::default() };
         let asked = || format!("writing back at {year}");
         self.same(asked, answer, expected);
         let found = self.out.holds(sheet);
@@ -231,13 +229,13 @@ fn sizes(due: &Result<Reading, Refusal>) -> Result<Sizes, Refusal> {
 }
 
 /// The archive's answer that these sizes, or this refusal, call for.
-fn checked(due: Result<Sizes, Refusal>) -> raw::Checked {
+fn checked(due: Result<Sizes, Refusal>) -> archive::Checked {
     match due {
         Ok(Sizes { sum, records, numbers, elements, bytes }) => {
-            raw::Checked { number: 0, place: 0, year: 0, sum, records, numbers, elements, bytes }
+            archive::Checked { sum, records, numbers, elements, bytes, ..archive::Checked::default() }
         }
         Err(refusal) => {
-            raw::Checked { number: refusal.number, place: refusal.place, year: refusal.year, ..raw::Checked::default() }
+            archive::Checked { number: refusal.number, place: refusal.place, year: refusal.year, ..archive::Checked::default() }
         }
     }
 }

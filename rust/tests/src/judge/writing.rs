@@ -1,12 +1,13 @@
 //! Everything that is written from a head and a table.
 
 use super::{refusal_of, table_sizes, Judge, TOLD};
+use crate::archive;
 use crate::numbers::Numbers;
-use crate::raw;
 use crate::reasons;
 use crate::tally::Call;
 use second::{Head, Refusal, Table};
 use std::hint::black_box;
+use sxf_sys::refusals;
 
 impl Judge {
     /// Writes a table at several years; the first says whether the case is
@@ -41,7 +42,7 @@ impl Judge {
 
     /// Writes into a slice of this length. `due` is the answer with all room.
     pub fn write(&mut self, year: u32, head: &Head, table: &Table, room: usize, due: &Result<Vec<u8>, Refusal>) {
-        let answer = raw::write(year, head, table, self.out.lend(room));
+        let answer = archive::write(year, head, table, self.out.lend(room));
         self.meet(Call::Write, answer.number);
         let mut refusal = refusal_of(due);
         let mut sheet: &[u8] = &[];
@@ -51,8 +52,8 @@ impl Judge {
             Err(_) => {}
         }
         let expected =
-            raw::Written { number: refusal.number, place: refusal.place, year: refusal.year, length: sheet.len() as u64 };
-        if refusal.number != 0 {
+            archive::Written { number: refusal.number, place: refusal.place, year: refusal.year, length: sheet.len() as u64 };
+        if refusal.number != refusals::OK {
             self.meet_reason(reasons::of_table(year, head, table, refusal));
         }
         let asked = || format!("write at {year} into {room}");

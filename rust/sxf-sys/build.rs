@@ -1,4 +1,4 @@
-// Links the archive that `rt staticlib sxf` writes.
+// Links the archive that `rt staticlib sxf` writes, from the folder that SXF_LIB_DIR names or from the repository's own.
 use std::env;
 use std::path::{Path, PathBuf};
 

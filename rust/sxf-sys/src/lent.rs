@@ -1,0 +1,174 @@
+//! The calls for slices that are lent. Each function lends what its declaration in [`calls`](crate::calls) says and nothing more, so that all
+//! of them are safe to call.
+use crate::calls::*;
+use crate::fields::{Carried, Rest};
+use crate::refusals;
+
+/// Checks a sheet.
+pub fn check(sheet: &[u8], year: u32) -> Checked {
+    // SAFETY: the pointer and the length are one slice's, lent for the call, which only reads it.
+    unsafe { sxf_check(sheet.as_ptr(), sheet.len(), year) }
+}
+
+/// Checks a sheet and unfolds its record table into three slices.
+pub fn unfold(sheet: &[u8], year: u32, table: &mut [u64], elements: &mut [u64], bytes: &mut [u8]) -> Checked {
+    let (t, e, b) = (table.len(), elements.len(), bytes.len());
+    // SAFETY: each pointer and length are one slice's, lent for the call; the three it writes are borrowed mutably, so that no two of the
+    // four overlap, and it writes within the lengths given.
+    unsafe { sxf_unfold(sheet.as_ptr(), sheet.len(), year, table.as_mut_ptr(), t, elements.as_mut_ptr(), e, bytes.as_mut_ptr(), b) }
+}
+
+/// A record table in memory of its own: its numbers, elements and bytes.
+pub type Unfolded = (Vec<u64>, Vec<u64>, Vec<u8>);
+
+/// Unfolds into new vectors of exactly these lengths. Their memory is asked for and not filled first, since the archive writes all of it.
+/// They are empty unless the answer is success and states these lengths.
+pub fn unfold_new(sheet: &[u8], year: u32, lengths: [usize; 3]) -> (Checked, Unfolded) {
+    let [n, e, b] = lengths;
+    let (mut numbers, mut elements, mut bytes) = (Vec::with_capacity(n), Vec::with_capacity(e), Vec::with_capacity(b));
+    // SAFETY: the sheet is a slice, lent for the call, which only reads it. Each of the three has room for as many as are lent of it, is not
+    // null and overlaps nothing else. What is lent there is not initialised: the archive's code only stores to it and never reads it, and by
+    // its contract (docs/PROMISES.md) what it leaves there does not depend on what was there before.
+    let answer = unsafe {
+        sxf_unfold(sheet.as_ptr(), sheet.len(), year, numbers.as_mut_ptr(), n, elements.as_mut_ptr(), e, bytes.as_mut_ptr(), b)
+    };
+    let stated = [answer.numbers, answer.elements, answer.bytes];
+    if answer.number == refusals::OK && stated == lengths.map(|length| length as u64) {
+        // SAFETY: each length is within the capacity asked for above, and all of it was written: by the same contract success writes the
+        // whole of the lengths that it states, which are these. A refusal writes nothing, and does not come here.
+        unsafe {
+            numbers.set_len(n);
+            elements.set_len(e);
+            bytes.set_len(b);
+        }
+    }
+    (answer, (numbers, elements, bytes))
+}
+
+/// The record of a number, from 0.
+pub fn record_at(sheet: &[u8], year: u32, record: u64) -> Record {
+    // SAFETY: as `check`.
+    unsafe { sxf_record_at(sheet.as_ptr(), sheet.len(), year, record) }
+}
+
+/// The lengths of the head's texts, and the scale.
+pub fn head_of(sheet: &[u8], year: u32) -> Head {
+    // SAFETY: as `check`.
+    unsafe { sxf_head_of(sheet.as_ptr(), sheet.len(), year) }
+}
+
+/// The unit of a sheet's coordinates.
+pub fn unit_of(sheet: &[u8], year: u32) -> Unit {
+    // SAFETY: as `check`.
+    unsafe { sxf_unit_of(sheet.as_ptr(), sheet.len(), year) }
+}
+
+/// The eight plane corners.
+pub fn corners_of(sheet: &[u8], year: u32) -> Corners {
+    // SAFETY: as `check`.
+    unsafe { sxf_corners_of(sheet.as_ptr(), sheet.len(), year) }
+}
+
+/// What a generalisation byte says under the sheet's byte at 96.
+pub fn visibility_of(flags: u8, byte: u8) -> Visibility {
+    // SAFETY: it takes numbers alone, and every number has an answer.
+    unsafe { sxf_visibility_of(flags, byte) }
+}
+
+/// The number of an item of this type and scale byte, whose value is these bits.
+pub fn value_of(kind: u8, scale: u8, bits: u32) -> Value {
+    // SAFETY: it takes numbers alone, and every number has an answer.
+    unsafe { sxf_value_of(kind, scale, bits) }
+}
+
+/// What a sheet is written from: its head, then its record table with the two pools.
+#[allow(missing_docs)]
+#[derive(Clone, Copy, Debug)]
+pub struct Contents<'a> {
+    pub date: &'a [u8],
+    pub designation: &'a [u8],
+    pub scale: u32,
+    pub title: &'a [u8],
+    pub rest: &'a Rest,
+    pub designation2: &'a [u8],
+    pub carried: &'a Carried,
+    pub table: &'a [u64],
+    pub elements: &'a [u64],
+    pub bytes: &'a [u8],
+}
+
+/// Writes a sheet into a slice.
+pub fn write(year: u32, from: &Contents<'_>, out: &mut [u8]) -> Written {
+    // SAFETY: each pointer and length are one slice's, and the two arrays have the lengths declared, all lent for the call; the output is
+    // borrowed mutably, so that it overlaps none of them, and the call writes within its length.
+    unsafe {
+        sxf_write(
+            year,
+            from.date.as_ptr(),
+            from.date.len(),
+            from.designation.as_ptr(),
+            from.designation.len(),
+            from.scale,
+            from.title.as_ptr(),
+            from.title.len(),
+            from.rest,
+            from.designation2.as_ptr(),
+            from.designation2.len(),
+            from.carried,
+            from.table.as_ptr(),
+            from.table.len(),
+            from.elements.as_ptr(),
+            from.elements.len(),
+            from.bytes.as_ptr(),
+            from.bytes.len(),
+            out.as_mut_ptr(),
+            out.len(),
+        )
+    }
+}
+
+#[cfg(test)]
+mod tests {
+    use super::*;
+    use crate::refusals::{OK, ROOM, SEMANTIC, SHORT};
+
+    #[test]
+    fn document_01s_visibility_and_example_1() {
+        assert_eq!(visibility_of(3, 0x24), Visibility { set: 1, lower: 10_000, upper: 10_000_000 });
+        assert_eq!(visibility_of(3, 0xFF), Visibility::default());
+        assert_eq!(value_of(2, 0xFF, 0x04F9), Value { is_number: 1, whole: 1273, power: -1, ..Value::default() });
+        assert_eq!(value_of(2, 0x80, 0).number, SEMANTIC);
+    }
+
+    #[test]
+    fn empty_slices_are_lent() {
+        assert_eq!(check(&[], 2017).number, SHORT);
+        assert_eq!(unfold(&[], 2017, &mut [], &mut [], &mut []).number, SHORT);
+        assert_eq!(unfold_new(&[], 2017, [0; 3]).0.number, SHORT);
+    }
+
+    const Q: &[u8] = include_bytes!("../../../samples/Q.sxf");
+    /// How many numbers, elements and bytes Q's table has.
+    const LENGTHS: [usize; 3] = [14, 2, 2];
+
+    #[test]
+    fn what_is_unfolded_into_new_memory_is_what_is_unfolded_into_lent() {
+        let (mut numbers, mut elements, mut bytes) = ([9; LENGTHS[0]], [9; LENGTHS[1]], [9; LENGTHS[2]]);
+        let lent = unfold(Q, 2017, &mut numbers, &mut elements, &mut bytes);
+        let (answer, new) = unfold_new(Q, 2017, LENGTHS);
+        assert_eq!((lent.number, answer), (OK, lent));
+        assert_eq!(new, (numbers.to_vec(), elements.to_vec(), bytes.to_vec()));
+    }
+
+    #[test]
+    fn new_memory_of_other_lengths_stays_empty() {
+        for lengths in [[15, 2, 2], [14, 3, 2], [14, 2, 3], [99; 3]] {
+            let (answer, new) = unfold_new(Q, 2017, lengths);
+            assert_eq!((answer.number, new), (OK, Unfolded::default()));
+        }
+        for (place, lengths) in [(1, [13, 2, 2]), (2, [14, 1, 2]), (3, [14, 2, 1])] {
+            let (answer, new) = unfold_new(Q, 2017, lengths);
+            assert_eq!((answer.number, answer.place, new), (ROOM, place, Unfolded::default()));
+        }
+    }
+}

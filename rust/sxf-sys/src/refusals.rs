@@ -1,0 +1,36 @@
+//! The sixteen refusals by document 01's numbers and names (01, The refusals), as the answers have them; [`OK`] is an answer that is none.
+
+/// No refusal.
+pub const OK: u64 = 0;
+/// The sheet is over the limit.
+pub const TOO_LONG: u64 = 1;
+/// Under 452 bytes; under 32 left for a record; a total length past the end.
+pub const SHORT: u64 = 2;
+/// An identifier differs.
+pub const NOT_SXF: u64 = 3;
+/// A fixed length or the edition differs.
+pub const EDITION: u64 = 4;
+/// The sum differs.
+pub const SUM: u64 = 5;
+/// A text field is not zero-ended and zero-filled; a closing zero is missing.
+pub const TEXT: u64 = 6;
+/// A value that is not allowed at a flag, code or reserved field.
+pub const RESERVED: u64 = 7;
+/// A feature later than the setting.
+pub const TOO_NEW: u64 = 8;
+/// Binding vector or graphics bit.
+pub const NOT_CARRIED: u64 = 9;
+/// A length that is too small, does not fit or leaves bytes over.
+pub const LENGTH: u64 = 10;
+/// The word at +24 is too small under the mark; N1 is not 0 without it.
+pub const COUNT: u64 = 11;
+/// An item's unknown type, bad scale, or bad length of type 128.
+pub const SEMANTIC: u64 = 12;
+/// Bytes after the last record.
+pub const LEFT_OVER: u64 = 13;
+/// The numbers given are not a record table.
+pub const TABLE: u64 = 14;
+/// A lent output is too small.
+pub const ROOM: u64 = 15;
+/// The setting is not one of nine, or the record number is not below the count.
+pub const ASK: u64 = 16;

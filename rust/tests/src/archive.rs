@@ -1,0 +1,23 @@
+//! The archive's calls, each lent slices, and their answers, as `sxf-sys` has
+//! them; and writing from the head and the table of `second`.
+
+use sxf_sys::lent::{self, Contents};
+
+pub use sxf_sys::lent::{check, corners_of, head_of, record_at, unfold, unit_of, value_of, visibility_of};
+pub use sxf_sys::{Checked, Corners, Head, Record, Unit, Value, Visibility, Written};
+
+pub fn write(year: u32, head: &second::Head, table: &second::Table, out: &mut [u8]) -> Written {
+    let from = Contents {
+        date: &head.date,
+        designation: &head.designation,
+        scale: head.scale,
+        title: &head.title,
+        rest: &head.rest,
+        designation2: &head.designation2,
+        carried: &head.carried,
+        table: &table.numbers,
+        elements: &table.elements,
+        bytes: &table.bytes,
+    };
+    lent::write(year, &from, out)
+}
