@@ -10,7 +10,8 @@ use crate::numbers;
 use crate::shapes;
 use crate::shapes::Shape;
 
-// n elements from at on, each its low two bytes, to out at w.
+// Writes the n elements of the pool that start at `at` as two bytes each, from w on. An element that is wider loses its upper bytes, so
+// the caller has seen that all fit.
 pub fn put2(xs: &[u64], at: usize, n: usize, out: &mut [u8], w: usize)
     requires { ⌜ (at + n ≤ length (now xs)) × (w + 2 * n ≤ length (now out)) ⌝ }
     ensures { λ _. ⌜ now (out .exit) ≡ sets (now (out .entry)) w (storedAll (repeat n (2 ∷ [])) (drop at (now (xs .entry)))) ⌝ }
@@ -22,7 +23,7 @@ pub fn put2(xs: &[u64], at: usize, n: usize, out: &mut [u8], w: usize)
     }
 }
 
-// each its low four bytes
+// The same as four bytes each.
 pub fn put4(xs: &[u64], at: usize, n: usize, out: &mut [u8], w: usize)
     requires { ⌜ (at + n ≤ length (now xs)) × (w + 4 * n ≤ length (now out)) ⌝ }
     ensures { λ _. ⌜ now (out .exit) ≡ sets (now (out .entry)) w (storedAll (repeat n (4 ∷ [])) (drop at (now (xs .entry)))) ⌝ }
@@ -61,7 +62,7 @@ pub fn put_points(xs: &[u64], at: usize, n: usize, out: &mut [u8], w: usize)
     }
 }
 
-// The elements of so many points.
+// Writes the elements of so many points of a shape, by the loop for their width.
 pub fn put_elements(xs: &[u64], at: usize, count: usize, s: Shape, out: &mut [u8], w: usize)
     requires { ⌜ (at + count * dimensions (s .three) ≤ length (now xs)) × (w + count * pointOf s ≤ length (now out)) × (count < 2 ^ 32) ⌝ }
     ensures { λ _. ⌜ now (out .exit) ≡ sets (now (out .entry)) w (storedAll (repeat count (widthsOf s)) (drop at (now (xs .entry)))) ⌝ }

@@ -76,7 +76,7 @@ fn plain(b20: u8, b21: u8, b22: u8) -> bool
     ((b20 <= 5) & ((b21 < 8) & (b21 % 2 == 0))) & ((b22 < 8) & (b22 % 2 == 0))
 }
 
-// The step so far; then the reference bytes.
+// The checks on the reference bytes, unless something was refused before. Bytes that every check lets through are let through at once.
 pub fn reference_checks(
     so_far: Step,
     b20: u8,
@@ -102,7 +102,7 @@ pub fn reference_checks(
     }
 }
 
-// The rest of the passport, from what stands in it; north and east say whether an offset has a byte that is not zero.
+// The checks on the rest of the passport, given as what stands in it; north and east say whether an offset has a byte that is not zero.
 fn rest_by(
     so_far: Step,
     flags: u8,
@@ -149,7 +149,7 @@ fn rest_by(
     feature(a, east, years::EAST_OFFSET, 0, passport::EAST, year)
 }
 
-// The same from its 304 bytes.
+// The checks on the rest of the passport, given as its 304 bytes.
 pub fn rest_checks(so_far: Step, r: &[u8], year: u32) -> Step
     requires { ⌜ Passport.rest .width ≤ length (now r) ⌝ }
     ensures { λ o. ⌜ Next «so_far» year 0 (restChecks (now (r .entry))) o ⌝ }
@@ -174,7 +174,7 @@ pub fn rest_checks(so_far: Step, r: &[u8], year: u32) -> Step
     )
 }
 
-// The descriptor's carried bytes, from what stands in them.
+// The checks on the descriptor's carried bytes, given as what stands in them.
 fn carried_by(so_far: Step, flags: u8, labels: u8, secrecy: u8, keeping: u8, year: u32) -> Step
     ensures { λ r. ⌜ Next «so_far» year 0 (carriedBy flags labels secrecy keeping) r ⌝ }
 {
@@ -202,7 +202,7 @@ fn carried_by(so_far: Step, flags: u8, labels: u8, secrecy: u8, keeping: u8, yea
     )
 }
 
-// The same from the four bytes.
+// The checks on the descriptor's carried bytes, given as the four bytes.
 pub fn carried_checks(so_far: Step, c: &[u8], year: u32) -> Step
     requires { ⌜ Descriptor.carried .width ≤ length (now c) ⌝ }
     ensures { λ o. ⌜ Next «so_far» year 0 (carriedChecks (now (c .entry))) o ⌝ }

@@ -39,7 +39,7 @@ pub fn u64_at(s: &[u8], p: usize) -> u64
     (lo as u64) + 4294967296 * (hi as u64)
 }
 
-// The n bytes at p, and all bytes from p on.
+// The n bytes of s that start at p; and below, all bytes from p on. As functions they have a contract in the words of the definitions.
 pub fn part(s: &[u8], p: usize, n: usize) -> &[u8]
     requires { ⌜ p + n ≤ length (now s) ⌝ }
     ensures { λ r. ⌜ now r ≡ take n (drop p (now (s .entry))) ⌝ }

@@ -52,7 +52,7 @@ pub fn feature(so_far: Step, on: bool, since: u32, place: usize, k: usize, year:
     so_far
 }
 
-// Whether two tests agree.
+// Whether two tests have the same outcome.
 pub fn agree(a: bool, b: bool) -> bool
     ensures { λ r. ⌜ r ≡ agreeOf a b ⌝ }
 {

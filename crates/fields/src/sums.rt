@@ -40,7 +40,7 @@ fn block(s: &[u8], at: usize) -> u32
     sum
 }
 
-// Block by block, and then what is left.
+// The sum of all bytes: block by block, and then the few that are left.
 pub fn sum_of(s: &[u8]) -> u32
     requires { ⌜ length (now s) ≤ limit ⌝ }
     ensures { λ r. ⌜ (r ≡ total (now (s .entry))) × (r ≤ 255 * length (now (s .entry))) ⌝ }
@@ -54,13 +54,13 @@ pub fn sum_of(s: &[u8]) -> u32
     sum + few(numbers::rest(s, at))
 }
 
-// A sum on its way: the bytes before `to` add up to it.
+// A sum that is not complete: the bytes before `to` add up to it.
 pub struct Summed {
     pub sum: u32,
     pub to: usize,
 }
 
-// The sum goes on by n bytes.
+// Adds the next n bytes to the sum.
 fn sum_on(s: &[u8], so_far: Summed, n: usize) -> Summed
     requires { ⌜ SummedIn (now s) «so_far» × («so_far» .to + n ≤ length (now s)) × (length (now s) ≤ limit) ⌝ }
     ensures { λ r. ⌜ SummedIn (now (s .entry)) r × (r .to ≡ «so_far» .to + n) ⌝ }
@@ -71,8 +71,8 @@ fn sum_on(s: &[u8], so_far: Summed, n: usize) -> Summed
     }
 }
 
-// The sum goes on past a place that it has not passed yet, by a stretch that fits near memory, so that who reads on from that place finds
-// the bytes there. At the end of the bytes it is whole.
+// Adds bytes to the sum until it has passed a place by a stretch that stays in near memory, so that who reads on from that place finds the
+// bytes there. Where fewer bytes are left, it is then complete.
 pub fn sum_past(s: &[u8], so_far: Summed, at: usize) -> Summed
     requires { ⌜ SummedIn (now s) «so_far» × (at ≤ length (now s)) × (length (now s) ≤ limit) ⌝ }
     ensures { λ r. ⌜ SummedIn (now (s .entry)) r × (at ≤ r .to) ⌝ }

@@ -58,7 +58,7 @@ pub fn put_zeros(out: &mut [u8], w: usize, n: usize)
     }
 }
 
-// A text in a field of so many bytes.
+// Writes a text into a field of so many bytes: the text, then zeros to the end of the field.
 pub fn put_text(text: &[u8], width: usize, out: &mut [u8], w: usize)
     requires { ⌜ (length (now text) ≤ width) × (w + width ≤ length (now out)) ⌝ }
     ensures { λ _. ⌜ now (out .exit) ≡ sets (now (out .entry)) w (now (text .entry) ++ replicate (width - length (now (text .entry))) 0) ⌝ }

@@ -93,7 +93,8 @@ row-bytes r n =
     let b : Bool = textInMetric ref in
     let first : length (r .first .text) ≤ cond b (2 + length (r .first .text)) 0 = label-fits b (r .first .text) (n .first .label) in
     let later : sumBy (λ (a : Part). length (a .text)) (r .subobjects) ≤ sumBy (subobjectBytes ref) (r .subobjects) =
-    sum-le (FineSubobject ref _) (λ a. length (a .text)) (subobjectBytes ref) (λ a f. omega (arith, label-fits b (a .text) (f .part .label))) (r .subobjects) (n .subobjects) in
+    sum-le (FineSubobject ref _) (λ a. length (a .text)) (subobjectBytes ref) (λ a f. omega (arith, label-fits b (a .text) (f .part .label))) (r .subobjects)
+    (n .subobjects) in
     let items : sumBy (λ (i : Item). length (i .value)) (r .items) ≤ sumBy itemBytes (r .items) =
     sum-le FineItem (λ i. length (i .value)) itemBytes (λ i f. omega arith) (r .items) (n .items) in
     omega (arith, first, later, items)
@@ -103,7 +104,12 @@ row-bytes r n =
 pub numbers-bound : (u : Sheet) → Fine u → start + length (flatten (u .records) .numbers) + length (u .records) * 22 ≤ length (encode u)
 numbers-bound u f =
     let near = all-near (u .records) (f .records) in
-    omega (arith, encode-length u (f .head) near, flatten-sizes (u .records) near .0, sum-over NearRecord 22 rowNumbers recordBytes row-numbers (u .records) near)
+    omega (
+      arith,
+      encode-length u (f .head) near,
+      flatten-sizes (u .records) near .0,
+      sum-over NearRecord 22 rowNumbers recordBytes row-numbers (u .records) near,
+    )
 
 pub elements-bound : (u : Sheet) → Fine u → start + 2 * length (flatten (u .records) .elements) + length (u .records) * 32 ≤ length (encode u)
 elements-bound u f =

@@ -65,5 +65,10 @@ cases =
 
 pub marked : All Holds cases
 unfolding computing
-marked =
-    ((refl, refl), (refl, (refl, (refl, ((refl, refl), (refl, ((refl, refl), (refl, ((refl, refl), (refl, (refl, (refl, (refl, (refl, (refl, (refl, tt))))))))))))))))
+marked = (
+  (refl, refl),
+  (
+    refl,
+    (refl, (refl, ((refl, refl), (refl, ((refl, refl), (refl, ((refl, refl), (refl, (refl, (refl, (refl, (refl, (refl, (refl, tt)))))))))))))),
+  ),
+)

@@ -4,7 +4,8 @@ use Rattle.layout.specs.Answers.Enums.{checkedOf, foundOf, headedOf, wri
 use Rattle.layout.specs.Answers.Corners.{cornersOf}
 use Rattle.layout.specs.Answers.Units.{unitOf, numberOf}
 use Rattle.layout.specs.Answers.Values.{semanticValue}
-use Rattle.layout.specs.Layout.Encode.{encodeItem, encodeText, encodePart, encodeSubobject, encodeMetric, encodeSemantics, encodeHeader, encodeRecord, encodeHead, encodeWith, sheetSum, encode}
+use Rattle.layout.specs.Layout.Encode.{encodeItem, encodeText, encodePart, encodeSubobject, encodeMetric, encodeSemantics, encodeHeader, encodeRecord}
+use Rattle.layout.specs.Layout.Encode.{encodeHead, encodeWith, sheetSum, encode}
 use Rattle.layout.specs.Layout.Uses.{itemYears, recordYears, years}
 use Rattle.layout.specs.Reading.Items.{itemChecks, itemWalk}
 use Rattle.layout.specs.Reading.Parts.{textWalk, partWalk, subobjectWalk, metricWalk}
@@ -20,5 +21,10 @@ use Rattle.layout.specs.Writing.Sheets.{titleRules, headWalk, limitRules
 use Rattle.layout.specs.Writing.Tables.{flattenHeader, flattenPart, flattenItem, flattenRecord, flatten}
 
 unfoldable pub computing : Unit {0}
-unfolding restChecks carriedChecks byte20 byte21 byte22 referenceChecks visibilityOf itemChecks itemWalk textWalk partWalk subobjectWalk metricWalk lengthChecks countChecks headerWalk bodyWalk recordWith recordWalk sizeChecks passportChecks descriptorChecks reservedChecks sheetWalk encodeItem encodeText encodePart encodeSubobject encodeMetric encodeSemantics encodeHeader encodeRecord encodeHead encodeWith sheetSum encode itemYears recordYears years flattenHeader flattenPart flattenItem flattenRecord flatten itemRules takeItem firstRules laterRules elementRules textRules takePart roomRules nameRules countRules rowRules takeInside rowWalk endRules rowsWalk titleRules headWalk limitRules tableWalk reading unfolded roomy asked written checkedOf foundOf headedOf writtenOf unitIn cornersIn cornersOf unitOf numberOf semanticValue
+unfolding restChecks carriedChecks byte20 byte21 byte22 referenceChecks visibilityOf itemChecks itemWalk textWalk partWalk subobjectWalk metricWalk lengthChecks
+    countChecks headerWalk bodyWalk recordWith recordWalk sizeChecks passportChecks descriptorChecks reservedChecks sheetWalk encodeItem encodeText encodePart
+    encodeSubobject encodeMetric encodeSemantics encodeHeader encodeRecord encodeHead encodeWith sheetSum encode itemYears recordYears years flattenHeader
+    flattenPart flattenItem flattenRecord flatten itemRules takeItem firstRules laterRules elementRules textRules takePart roomRules nameRules countRules
+    rowRules takeInside rowWalk endRules rowsWalk titleRules headWalk limitRules tableWalk reading unfolded roomy asked written checkedOf foundOf headedOf
+    writtenOf unitIn cornersIn cornersOf unitOf numberOf semanticValue
 computing = tt

@@ -34,7 +34,7 @@ pub struct Sizes {
     pub bytes: usize,
 }
 
-// A sheet is checked, or unfolded.
+// What checking or unfolding a sheet answers.
 pub enum Checked {
     Accepted(Sizes),
     Refused(Refusal),
@@ -55,7 +55,7 @@ pub struct RecordAt {
     pub points: u32,
 }
 
-// A record is asked for by its number.
+// What asking for a record by its number answers.
 pub enum Found {
     Record(RecordAt),
     Refused(Refusal),
@@ -76,7 +76,7 @@ pub enum Headed {
     Refused(Refusal),
 }
 
-// A sheet is written: so many bytes.
+// What writing a sheet answers: how many bytes of the lent slice are the sheet.
 pub enum Written {
     Length(usize),
     Refused(Refusal),
@@ -124,7 +124,7 @@ pub struct CornerBits {
     pub se_y: u64,
 }
 
-// The same as doubles.
+// The eight plane corners as doubles.
 pub struct PlaneCorners {
     pub sw_x: f64,
     pub sw_y: f64,
@@ -138,7 +138,7 @@ pub struct PlaneCorners {
 
 pub enum Corners {
     Doubles(PlaneCorners),
-    // One is no number: the place of the first that is none, and all eight as stored.
+    // At least one corner is a NaN: the place of the first, and all eight as stored.
     Bits(usize, CornerBits),
     Refused(Refusal),
 }

@@ -12,6 +12,7 @@ madeOf (given year) = At (record { year = year })
 madeOf (refused number place year) = Refused (refusal number place year)
 
 cases : (madeOf (settingOf 1999) ≡ At (record { year = 1999 })) × (madeOf (settingOf 2017) ≡ At (record { year = 2017 }))
-    × (madeOf (settingOf 2018) ≡ Refused (record { number = 16; place = 0; year = 0 })) × (madeOf (settingOf 0) ≡ Refused (record { number = 16; place = 0; year = 0 }))
+    × (madeOf (settingOf 2018) ≡ Refused (record { number = 16; place = 0; year = 0 }))
+    × (madeOf (settingOf 0) ≡ Refused (record { number = 16; place = 0; year = 0 }))
 unfolding madeOf
 cases = (refl, refl, refl, refl)

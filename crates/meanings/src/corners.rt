@@ -15,7 +15,7 @@ pub fn not_number(bits: u64) -> bool
     0x7FF0000000000000 < bits % 0x8000000000000000
 }
 
-// This place where the bits are no number, else the later one.
+// The place of this corner if its bits are a NaN, else the place found among the later corners.
 fn place_or(bits: u64, place: usize, later: usize) -> usize
     ensures { λ r. ⌜ r ≡ placeOr bits place later ⌝ }
 {

@@ -9,7 +9,7 @@ use layout::SemanticValue;
 use layout::item;
 use layout::refusals::SEMANTIC;
 
-// An integer of the bits whose top bit weighs half.
+// The number of an integer item: half is the weight of its top bit, which counts as negative.
 fn integer(bits: u32, half: u32, scale: u8) -> SemanticValue
     ensures { λ r. ⌜ r ≡ integerBy half bits scale ⌝ }
 {

@@ -49,7 +49,8 @@ Unfolds y s t₀ e₀ b₀ t₁ e₁ b₁ r =
 
 pub unfold-says : (κs : Lfts 4) (a : Dens κs unfold-kinds.ps) (x : resT unfold-kinds.r κs .Denot) (e : AtExit (endedOf 4 unfold-kinds.ps unfold-kinds.r) κs)
     → unfold-sheet.Post κs a x e
-    → Unfolds (a .1 .0 .year) (now (a .0)) (now (a .1 .1 .0)) (now (a .1 .1 .1 .0)) (now (a .1 .1 .1 .1 .0)) (now (e .1 .1 .0)) (now (e .1 .1 .1 .0)) (now (e .1 .1 .1 .1 .0)) x
+    → Unfolds (a .1 .0 .year) (now (a .0)) (now (a .1 .1 .0)) (now (a .1 .1 .1 .0)) (now (a .1 .1 .1 .1 .0)) (now (e .1 .1 .0)) (now (e .1 .1 .1 .0))
+    (now (e .1 .1 .1 .1 .0)) x
 unfold-says κs a x e p = p
 
 -- `write`, of a head and a table, into a slice that held o and then holds out

@@ -38,7 +38,8 @@ pub once-unfold : Once unfold-kinds.ps unfold-kinds.r unfold-sheet.Post
 once-unfold κs a x y e f p q = p .0 ∙ sym (q .0)
 
 -- the slices follow the sheet and the setting
-pub once-unfolded : (κs : Lfts 4) (a : Dens κs unfold-kinds.ps) (x y : resT unfold-kinds.r κs .Denot) (e f : AtExit (endedOf 4 unfold-kinds.ps unfold-kinds.r) κs)
+pub once-unfolded : (κs : Lfts 4) (a : Dens κs unfold-kinds.ps) (x y : resT unfold-kinds.r κs .Denot)
+    (e f : AtExit (endedOf 4 unfold-kinds.ps unfold-kinds.r) κs)
     → unfold-sheet.Post κs a x e → unfold-sheet.Post κs a y f
     → (now (e .1 .1 .0) ≡ now (f .1 .1 .0)) × (now (e .1 .1 .1 .0) ≡ now (f .1 .1 .1 .0)) × (now (e .1 .1 .1 .1 .0) ≡ now (f .1 .1 .1 .1 .0))
 once-unfolded κs a x y e f p q = (p .1 .0 ∙ sym (q .1 .0), p .1 .1 .0 ∙ sym (q .1 .1 .0), p .1 .1 .1 ∙ sym (q .1 .1 .1))

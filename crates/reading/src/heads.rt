@@ -10,7 +10,7 @@ use layout::UnitAnswer;
 use meanings::setting::Setting;
 use reading_head::answers;
 
-// The head as the writer takes it.
+// The lengths of the four texts and the scale: with the bytes at their places they are what the writer takes.
 pub fn head_by_year(s: &[u8], year: u32) -> Headed
     ensures { λ r. ⌜ r ≡ headedOf (reading year (now (s .entry))) ⌝ }
 {
@@ -38,7 +38,7 @@ pub fn corners_by_year(s: &[u8], year: u32) -> Corners
     }
 }
 
-// The same three at a setting.
+// The three calls above, at a setting.
 pub fn head_of(s: &[u8], setting: Setting) -> Headed
     ensures { λ r. ⌜ r ≡ headedOf (reading (setting .year) (now (s .entry))) ⌝ }
 {

@@ -22,7 +22,7 @@ pub fn check_by_year(s: &[u8], year: u32) -> Checked
     }
 }
 
-// The same at a setting.
+// Checks a sheet at a setting.
 pub fn check(s: &[u8], setting: Setting) -> Checked
     ensures { λ r. ⌜ r ≡ checkedOf (reading (setting .year) (now (s .entry))) ⌝ }
 {
@@ -75,7 +75,7 @@ pub fn unfold_by_year(
     }
 }
 
-// The same at a setting.
+// Unfolds a sheet at a setting.
 pub fn unfold(
     s: &[u8],
     setting: Setting,
@@ -83,7 +83,8 @@ pub fn unfold(
     elements: &mut [u64],
     bytes: &mut [u8],
 ) -> Checked
-    ensures answers { λ r. ⌜ r ≡ checkedOf (roomy (setting .year) (now (s .entry)) (rooms (now (table .entry)) (now (elements .entry)) (now (bytes .entry)))) ⌝ }
+    ensures answers { λ r. ⌜ r ≡ checkedOf (roomy (setting .year) (now (s .entry))
+        (rooms (now (table .entry)) (now (elements .entry)) (now (bytes .entry)))) ⌝ }
     ensures numbers { λ _. ⌜ now (table .exit) ≡ lent theNumbers (unfolded (setting .year) (now (s .entry))
         (rooms (now (table .entry)) (now (elements .entry)) (now (bytes .entry)))) (now (table .entry)) ⌝ }
     ensures pool { λ _. ⌜ now (elements .exit) ≡ lent theElements (unfolded (setting .year) (now (s .entry))

@@ -19,7 +19,7 @@ use layout::refusals::TEXT;
 use layout::row;
 use layout::subobject;
 
-// A text: its length, its bytes and its closing zero.
+// Checks a text: a length byte, so many bytes, and a closing zero.
 fn text_of(xs: &[u8], p: usize) -> Counted
     requires { ⌜ p + length (now xs) < 2 ^ 32 ⌝ }
     ensures means { λ r. ⌜ ((y : ℕ) → r ≡ shown (tally textTable) y (textWalk true p (now (xs .entry)))) ⌝ }
@@ -55,7 +55,7 @@ fn text_of(xs: &[u8], p: usize) -> Counted
     })
 }
 
-// The text at the end of a part, where it has one.
+// Checks the text at the end of a part, if its record has texts.
 pub fn text_end(xs: &[u8], p: usize, text: bool) -> Counted
     requires { ⌜ p + length (now xs) < 2 ^ 32 ⌝ }
     ensures means { λ r. ⌜ ((y : ℕ) → r ≡ shown (tally textTable) y (textWalk text p (now (xs .entry)))) ⌝ }
@@ -72,10 +72,11 @@ pub fn text_end(xs: &[u8], p: usize, text: bool) -> Counted
     })
 }
 
-// So many points, and the text. A count is multiplied and never walked.
+// Checks a part of count points and its text. The count is multiplied and never walked, so that any count is answered at once.
 pub fn part(xs: &[u8], p: usize, count: usize, b20: u8, b21: u8, b22: u8) -> Counted
     requires { ⌜ (p + length (now xs) < 2 ^ 32) × (count < 2 ^ 32) ⌝ }
-    ensures means { λ r. ⌜ ((y : ℕ) → r ≡ shown (tally flattenPart) y (partWalk (record { byte20 = b20; byte21 = b21; byte22 = b22 }) count p (now (xs .entry)))) ⌝ }
+    ensures means { λ r.
+        ⌜ ((y : ℕ) → r ≡ shown (tally flattenPart) y (partWalk (record { byte20 = b20; byte21 = b21; byte22 = b22 }) count p (now (xs .entry)))) ⌝ }
     ensures within { λ r. ⌜ Within (length (now (xs .entry))) 2 r ⌝ }
 {
     let s = shapes::shape_of(b20, b21, b22);
@@ -102,7 +103,8 @@ pub fn part(xs: &[u8], p: usize, count: usize, b20: u8, b21: u8, b22: u8) -> Cou
 // A later part: N1 and N2, then as any part. Without the mark N1 must be 0.
 pub fn subobject(xs: &[u8], p: usize, marked: bool, b20: u8, b21: u8, b22: u8) -> Counted
     requires { ⌜ p + length (now xs) < 2 ^ 32 ⌝ }
-    ensures means { λ r. ⌜ ((y : ℕ) → r ≡ shown (tally flattenPart) y (subobjectWalk (record { byte20 = b20; byte21 = b21; byte22 = b22 }) marked p (now (xs .entry)))) ⌝ }
+    ensures means { λ r.
+        ⌜ ((y : ℕ) → r ≡ shown (tally flattenPart) y (subobjectWalk (record { byte20 = b20; byte21 = b21; byte22 = b22 }) marked p (now (xs .entry)))) ⌝ }
     ensures within { λ r. ⌜ Within (length (now (xs .entry))) 0 r ⌝ }
 {
     if xs.len() < subobject::SIZE {
@@ -139,10 +141,12 @@ pub fn subobject(xs: &[u8], p: usize, marked: bool, b20: u8, b21: u8, b22: u8) -
     })
 }
 
-// So many subobjects, one after another.
+// Checks n subobjects, one after another.
 pub fn subobjects(xs: &[u8], p: usize, n: u16, marked: bool, b20: u8, b21: u8, b22: u8) -> Counted
     requires { ⌜ p + length (now xs) < 2 ^ 32 ⌝ }
-    ensures means { λ r. ⌜ ((y : ℕ) → r ≡ shown (tally (joined flattenPart)) y (times n (subobjectWalk (record { byte20 = b20; byte21 = b21; byte22 = b22 }) marked) p (now (xs .entry)))) ⌝ }
+    ensures means { λ r.
+        ⌜ ((y : ℕ) → r ≡ shown (tally (joined flattenPart)) y
+        (times n (subobjectWalk (record { byte20 = b20; byte21 = b21; byte22 = b22 }) marked) p (now (xs .entry)))) ⌝ }
     ensures within { λ r. ⌜ Within (length (now (xs .entry))) 0 r ⌝ }
 {
     let mut left = n;
@@ -167,7 +171,7 @@ pub fn subobjects(xs: &[u8], p: usize, n: u16, marked: bool, b20: u8, b21: u8, b
     Counted::Fine(acc)
 }
 
-// The first part, and then so many subobjects.
+// Checks the first part, and the n subobjects after it.
 fn pair(
     xs: &[u8],
     p: usize,
@@ -179,7 +183,10 @@ fn pair(
     b22: u8,
 ) -> Counted
     requires { ⌜ (p + length (now xs) < 2 ^ 32) × (count < 2 ^ 32) ⌝ }
-    ensures means { λ r. ⌜ ((y : ℕ) → r ≡ shown (tally metricTable) y (pairOf (partWalk (record { byte20 = b20; byte21 = b21; byte22 = b22 }) count) (times n (subobjectWalk (record { byte20 = b20; byte21 = b21; byte22 = b22 }) marked)) p (now (xs .entry)))) ⌝ }
+    ensures means { λ r.
+        ⌜ ((y : ℕ) → r ≡ shown (tally metricTable) y
+        (pairOf (partWalk (record { byte20 = b20; byte21 = b21; byte22 = b22 }) count)
+        (times n (subobjectWalk (record { byte20 = b20; byte21 = b21; byte22 = b22 }) marked)) p (now (xs .entry)))) ⌝ }
     ensures within { λ r. ⌜ Within (length (now (xs .entry))) 2 r ⌝ }
 {
     match part(xs, p, count, b20, b21, b22) {
@@ -194,7 +201,7 @@ fn pair(
     }
 }
 
-// The metric of a record: its parts fill it.
+// Checks the metric of a record, whose bytes are xs: its parts have to fill it.
 pub fn metric(
     xs: &[u8],
     p: usize,
@@ -206,7 +213,9 @@ pub fn metric(
     b22: u8,
 ) -> Counted
     requires { ⌜ (p + length (now xs) < 2 ^ 32) × (count < 2 ^ 32) ⌝ }
-    ensures means { λ r. ⌜ ((y : ℕ) → r ≡ shown (λ v. tallyOf (length (now (xs .entry))) (metricTable v)) y (metricWalk (record { byte20 = b20; byte21 = b21; byte22 = b22 }) marked count n p (now (xs .entry)))) ⌝ }
+    ensures means { λ r.
+        ⌜ ((y : ℕ) → r ≡ shown (λ v. tallyOf (length (now (xs .entry))) (metricTable v)) y
+        (metricWalk (record { byte20 = b20; byte21 = b21; byte22 = b22 }) marked count n p (now (xs .entry)))) ⌝ }
     ensures within { λ r. ⌜ Within (length (now (xs .entry))) 2 r ⌝ }
 {
     match pair(xs, p, count, n, marked, b20, b21, b22) {

@@ -16,7 +16,7 @@ pub enum Counted {
     Refused(Refusal),
 }
 
-// Two pieces, one after the other.
+// What two pieces count together.
 pub fn sum(a: Tally, b: Tally) -> Tally
     requires { ⌜ Small (add a b) ⌝ }
     ensures { λ r. ⌜ r ≡ add a b ⌝ }

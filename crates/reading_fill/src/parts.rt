@@ -19,7 +19,7 @@ use fields::shapes::Shape;
 use layout::row;
 use layout::subobject;
 
-// The elements of so many points.
+// Fills the elements of so many points of a shape, by the loop for their width.
 pub fn put_elements(xs: &[u8], at: usize, count: usize, s: Shape, out: &mut [u64], w: usize)
     requires { ⌜ (at + count * pointOf s ≤ length (now xs)) × (w + count * length (widthsOf s) ≤ length (now out)) × (count < 2 ^ 32) ⌝ }
     ensures { λ _. ⌜ now (out .exit) ≡ sets (now (out .entry)) w (numbers (repeat count (widthsOf s)) (drop at (now (xs .entry)))) ⌝ }
@@ -54,7 +54,7 @@ pub fn fill_text(xs: &[u8], at: usize, text: bool, out: &mut [u8], w: usize) -> 
     0
 }
 
-// How many bytes a text of a length takes.
+// How many bytes of the sheet a text of n bytes takes, with its length byte and its closing zero.
 fn text_size(text: bool, n: usize) -> usize
     requires { ⌜ n < 256 ⌝ }
     ensures { λ r. ⌜ (r ≡ cond text (n + 2) 0) × (r < 258) ⌝ }
@@ -65,7 +65,7 @@ fn text_size(text: bool, n: usize) -> usize
     0
 }
 
-// A part of so many points.
+// Fills the two numbers, the elements and the text of a part of count points.
 pub fn fill_part(
     xs: &[u8],
     s: Shape,
@@ -99,7 +99,7 @@ pub fn fill_part(
     }
 }
 
-// A later part: its count, N1 and N2, and then as any part.
+// Fills a later part: its count stands before it as N1 and N2.
 pub fn fill_subobject(
     xs: &[u8],
     s: Shape,
@@ -126,7 +126,7 @@ pub fn fill_subobject(
     fill_part(xs, s, n2 + subobject::UPPER * n1, d, table, elements, bytes)
 }
 
-// So many later parts.
+// Fills n later parts, one after another.
 pub fn fill_subobjects(
     xs: &[u8],
     s: Shape,

@@ -7,7 +7,8 @@ ghost use lib.Seq.{sets};
 ghost use Rattle.layout.specs.Fields.Header;
 ghost use Rattle.reading_fill.specs.Cursors.{ahead, moved, Room, Wrote};
 ghost use Rattle.reading_fill.specs.Pieces.{Each};
-ghost use Rattle.reading_fill.specs.Records.{recordIn, recordSize, recordsIn, recordsSize, metricSize, metricTable, partsSizeIn, partsTableIn, itemsSizeIn, itemsTableIn, rowOf, RecordFits, inside};
+ghost use Rattle.reading_fill.specs.Records.{recordIn, recordSize, recordsIn, recordsSize, metricSize, metricTable, partsSizeIn, partsTableIn};
+ghost use Rattle.reading_fill.specs.Records.{itemsSizeIn, itemsTableIn, rowOf, RecordFits, inside};
 ghost use Rattle.layout.specs.Reading.Records.{headerIn, semanticsIn};
 ghost use Rattle.layout.specs.Shared.Row.{rowWidth};
 ghost use Rattle.layout.specs.Writing.Tables.{joined, flattenRecord};
@@ -83,7 +84,8 @@ fn record_metric(
 fn record_items(xs: &[u8], c: Cursor, table: &mut [u64], bytes: &mut [u8]) -> Cursor
     requires { ⌜ Room (inside c) (itemsSizeIn (ahead c (now xs))) (itemsTableIn (ahead c (now xs)))
         (length (semanticsIn (headerIn (ahead c (now xs))) (ahead c (now xs)))) (length (now table)) (c .elements) (length (now bytes))
-        × (Header.size + headerIn (ahead c (now xs)) .metric ≤ headerIn (ahead c (now xs)) .total) × (c .place + headerIn (ahead c (now xs)) .total ≤ length (now xs)) ⌝ }
+        × (Header.size + headerIn (ahead c (now xs)) .metric ≤ headerIn (ahead c (now xs)) .total)
+        × (c .place + headerIn (ahead c (now xs)) .total ≤ length (now xs)) ⌝ }
     ensures is { λ r. ⌜ r ≡ moved (inside c) (itemsSizeIn (ahead c (now (xs .entry)))) (itemsTableIn (ahead c (now (xs .entry)))) ⌝ }
     ensures wrote { λ r. ⌜ Wrote (inside c) (itemsTableIn (ahead c (now (xs .entry))))
         (now (table .entry)) [] (now (bytes .entry)) (now (table .exit)) [] (now (bytes .exit)) ⌝ }

@@ -28,7 +28,7 @@ use layout::refusals::SUM;
 use layout::refusals::TEXT;
 use layout::sheet;
 
-// The four bytes at p hold one value only.
+// The four bytes at p hold a fixed value, or the refusal is given there.
 fn fixed(so_far: Step, s: &[u8], p: usize, value: u32, refusal: u32) -> Step
     requires { ⌜ p + 4 ≤ length (now s) ⌝ }
     ensures { λ r. ⌜ ((y : ℕ) → Next «so_far» y 0 (must (eqb (number 4 (drop p (now (s .entry)))) value) refusal p ∷ []) r) ⌝ }
@@ -36,7 +36,7 @@ fn fixed(so_far: Step, s: &[u8], p: usize, value: u32, refusal: u32) -> Step
     demand(so_far, numbers::u32_at(s, p) == value, refusal, 0, p)
 }
 
-// The n bytes at p hold a text.
+// The n bytes at p are a text field, or TEXT is given there.
 fn text(so_far: Step, s: &[u8], p: usize, n: usize) -> Step
     requires { ⌜ p + n ≤ length (now s) ⌝ }
     ensures { λ r. ⌜ ((y : ℕ) → Next «so_far» y 0 (must (isTextField (take n (drop p (now (s .entry))))) TEXT p ∷ []) r) ⌝ }

@@ -6,6 +6,12 @@ use crate::tell::failed;
 use crate::tell::refused;
 use layout::Refusal;
 use layout::Written;
+use layout::passport;
+use layout::refusals::RESERVED;
+use layout::refusals::TEXT;
+use layout::refusals::TOO_NEW;
+use layout::row;
+use layout::years;
 use meanings::setting::Setting;
 use writing::sheets::write;
 
@@ -56,7 +62,7 @@ pub fn all() {
         long,
         2,
         Setting::Y2017,
-        refusal(6, 28, 0),
+        refusal(TEXT, passport::DESIGNATION, 0),
     );
     // A spline at the setting 1999, and a localisation that is none.
     tried(
@@ -64,7 +70,13 @@ pub fn all() {
         b"A",
         4194306,
         Setting::Y1999,
-        refusal(8, 3, 2004),
+        refusal(TOO_NEW, row::REFERENCE, years::SPLINE_BITS),
     );
-    tried(b"localisation 6", b"A", 6, Setting::Y2017, refusal(7, 3, 0));
+    tried(
+        b"localisation 6",
+        b"A",
+        6,
+        Setting::Y2017,
+        refusal(RESERVED, row::REFERENCE, 0),
+    );
 }

@@ -121,7 +121,7 @@ const LABELS: [u64; 30] = [
 ];
 
 fn two_labels(at: Setting) {
-    let elements = [1, 2, 3, 4, 5, 65535, 100, 200, 300, 400];
+    let elements = [1, 2, 3, 4, 5, 0xFFFF, 100, 200, 300, 500];
     tried(b"two labels", &LABELS, &elements, b"ab\xF9\x04xyzA\0", at);
 }
 

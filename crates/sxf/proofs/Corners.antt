@@ -30,7 +30,8 @@ Real b = nanBits binary64 b ≡ false
 
 -- What holds of eight as stored, with the place of the first that is a NaN, and of eight doubles if all are numbers, holds of the answer.
 module _ (P : Corners → ℕ → Type 0) (c : CornerBits) (stored : (place : ℕ) → P (Bits place c) place) where
-  past : (test : Bool) (b place later : ℕ) (m : Corners) → nanBits binary64 b ≡ test → (Real b → P m later) → P (cond test (Bits place c) m) (cond test place later)
+  past : (test : Bool) (b place later : ℕ) (m : Corners) → nanBits binary64 b ≡ test → (Real b → P m later)
+      → P (cond test (Bits place c) m) (cond test place later)
   past true b place later m t k = stored place
   past false b place later m t k = k t
 

@@ -50,7 +50,8 @@ pub extern "C" fn sxf_unfold(
     elements: &mut [u64],
     bytes: &mut [u8],
 ) -> SxfChecked
-    ensures answers { λ r. ⌜ r ≡ checkedRow (checkedOf (roomy year (now (sheet .entry)) (rooms (now (table .entry)) (now (elements .entry)) (now (bytes .entry))))) ⌝ }
+    ensures answers { λ r.
+        ⌜ r ≡ checkedRow (checkedOf (roomy year (now (sheet .entry)) (rooms (now (table .entry)) (now (elements .entry)) (now (bytes .entry))))) ⌝ }
     ensures numbers { λ _. ⌜ now (table .exit) ≡ lent theNumbers (unfolded year (now (sheet .entry))
         (rooms (now (table .entry)) (now (elements .entry)) (now (bytes .entry)))) (now (table .entry)) ⌝ }
     ensures pool { λ _. ⌜ now (elements .exit) ≡ lent theElements (unfolded year (now (sheet .entry))

@@ -47,10 +47,12 @@ pub extern "C" fn sxf_write(
     out: &mut [u8],
 ) -> SxfWritten
     ensures answers { λ r. ⌜ r ≡ writtenRow (writtenOf (written year
-        (headOf (now (date .entry)) (now (designation .entry)) scale (now (title .entry)) (now (rest .entry)) (now (designation2 .entry)) (now (carried .entry)))
+        (headOf (now (date .entry)) (now (designation .entry)) scale (now (title .entry)) (now (rest .entry)) (now (designation2 .entry))
+        (now (carried .entry)))
         (tableOf (now (table .entry)) (now (elements .entry)) (now (bytes .entry))) (length (now (out .entry))))) ⌝ }
     ensures sheet { λ _. ⌜ now (out .exit) ≡ lent theSheet (written year
-        (headOf (now (date .entry)) (now (designation .entry)) scale (now (title .entry)) (now (rest .entry)) (now (designation2 .entry)) (now (carried .entry)))
+        (headOf (now (date .entry)) (now (designation .entry)) scale (now (title .entry)) (now (rest .entry)) (now (designation2 .entry))
+        (now (carried .entry)))
         (tableOf (now (table .entry)) (now (elements .entry)) (now (bytes .entry))) (length (now (out .entry)))) (now (out .entry)) ⌝ }
 {
     written_row(sheets::write_by_year(

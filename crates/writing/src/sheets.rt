@@ -46,7 +46,8 @@ fn measure(
 ) -> Rows
     requires { ⌜ (length (now rest) ≡ Passport.rest .width) × (length (now carried) ≡ Descriptor.carried .width) ⌝ }
     ensures { λ r. ⌜ ((scale : ℕ) → scale < 256 ^ 4 → r ≡ measuredOf (answer (upTo year) (tableWalk
-        (headOf (now (date .entry)) (now (designation .entry)) scale (now (title .entry)) (now (rest .entry)) (now (designation2 .entry)) (now (carried .entry)))
+        (headOf (now (date .entry)) (now (designation .entry)) scale (now (title .entry)) (now (rest .entry)) (now (designation2 .entry))
+        (now (carried .entry)))
         (tableOf (now (table .entry)) (now (elements .entry)) (now (bytes .entry)))))) ⌝ }
 {
     match check::check(date, designation, title, rest, designation2, carried, year) {
@@ -105,7 +106,7 @@ fn emit_sheet(
     emit::emit_sum(out, sheet::START + t.length);
 }
 
-// At a year that is a setting.
+// Writes a sheet for a year that is known to be a setting.
 fn write_at(
     date: &[u8],
     designation: &[u8],
@@ -122,10 +123,12 @@ fn write_at(
 ) -> Written
     requires { ⌜ (length (now rest) ≡ Passport.rest .width) × (length (now carried) ≡ Descriptor.carried .width) ⌝ }
     ensures answers { λ r. ⌜ r ≡ writtenOf (writtenAt year
-        (headOf (now (date .entry)) (now (designation .entry)) scale (now (title .entry)) (now (rest .entry)) (now (designation2 .entry)) (now (carried .entry)))
+        (headOf (now (date .entry)) (now (designation .entry)) scale (now (title .entry)) (now (rest .entry)) (now (designation2 .entry))
+        (now (carried .entry)))
         (tableOf (now (table .entry)) (now (elements .entry)) (now (bytes .entry))) (length (now (out .entry)))) ⌝ }
     ensures sheet { λ _. ⌜ now (out .exit) ≡ lent theSheet (writtenAt year
-        (headOf (now (date .entry)) (now (designation .entry)) scale (now (title .entry)) (now (rest .entry)) (now (designation2 .entry)) (now (carried .entry)))
+        (headOf (now (date .entry)) (now (designation .entry)) scale (now (title .entry)) (now (rest .entry)) (now (designation2 .entry))
+        (now (carried .entry)))
         (tableOf (now (table .entry)) (now (elements .entry)) (now (bytes .entry))) (length (now (out .entry)))) (now (out .entry)) ⌝ }
 {
     match measure(
@@ -187,10 +190,12 @@ pub fn write_by_year(
     out: &mut [u8],
 ) -> Written
     ensures answers { λ r. ⌜ r ≡ writtenOf (written year
-        (headOf (now (date .entry)) (now (designation .entry)) scale (now (title .entry)) (now (rest .entry)) (now (designation2 .entry)) (now (carried .entry)))
+        (headOf (now (date .entry)) (now (designation .entry)) scale (now (title .entry)) (now (rest .entry)) (now (designation2 .entry))
+        (now (carried .entry)))
         (tableOf (now (table .entry)) (now (elements .entry)) (now (bytes .entry))) (length (now (out .entry)))) ⌝ }
     ensures sheet { λ _. ⌜ now (out .exit) ≡ lent theSheet (written year
-        (headOf (now (date .entry)) (now (designation .entry)) scale (now (title .entry)) (now (rest .entry)) (now (designation2 .entry)) (now (carried .entry)))
+        (headOf (now (date .entry)) (now (designation .entry)) scale (now (title .entry)) (now (rest .entry)) (now (designation2 .entry))
+        (now (carried .entry)))
         (tableOf (now (table .entry)) (now (elements .entry)) (now (bytes .entry))) (length (now (out .entry)))) (now (out .entry)) ⌝ }
 {
     match Setting::new(year) {
@@ -212,7 +217,7 @@ pub fn write_by_year(
     }
 }
 
-// The same for a setting.
+// Writes a sheet for a setting.
 pub fn write(
     date: &[u8],
     designation: &[u8],
@@ -228,10 +233,12 @@ pub fn write(
     out: &mut [u8],
 ) -> Written
     ensures answers { λ r. ⌜ r ≡ writtenOf (written (setting .year)
-        (headOf (now (date .entry)) (now (designation .entry)) scale (now (title .entry)) (now (rest .entry)) (now (designation2 .entry)) (now (carried .entry)))
+        (headOf (now (date .entry)) (now (designation .entry)) scale (now (title .entry)) (now (rest .entry)) (now (designation2 .entry))
+        (now (carried .entry)))
         (tableOf (now (table .entry)) (now (elements .entry)) (now (bytes .entry))) (length (now (out .entry)))) ⌝ }
     ensures sheet { λ _. ⌜ now (out .exit) ≡ lent theSheet (written (setting .year)
-        (headOf (now (date .entry)) (now (designation .entry)) scale (now (title .entry)) (now (rest .entry)) (now (designation2 .entry)) (now (carried .entry)))
+        (headOf (now (date .entry)) (now (designation .entry)) scale (now (title .entry)) (now (rest .entry)) (now (designation2 .entry))
+        (now (carried .entry)))
         (tableOf (now (table .entry)) (now (elements .entry)) (now (bytes .entry))) (length (now (out .entry)))) (now (out .entry)) ⌝ }
 {
     write_by_year(

@@ -9,7 +9,7 @@ ghost use Rattle.layout.specs.Writing.Parts.{fitAll};
 use fields::shapes::Shape;
 use layout::bounds;
 
-// n elements from at on, each below a bound.
+// Whether each of the n elements that start at `at` is below a bound.
 fn fit_all(elements: &[u64], at: usize, n: usize, bound: u64) -> bool
     requires { ⌜ at + n ≤ length (now elements) ⌝ }
     ensures { λ r. ⌜ ((w : ℕ) → bound ≡ 256 ^ w → r ≡ fitAll (replicate n w) (drop at (now (elements .entry)))) ⌝ }

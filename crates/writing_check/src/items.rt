@@ -226,7 +226,8 @@ fn item_length(a: ItemNumbers) -> usize
 // One item.
 pub fn take_item(table: &[u64], bytes: &[u8], p: Places, year: u32) -> Moved
     requires { ⌜ (p .number + itemWidth ≤ length (now table)) × (p .byte ≤ length (now bytes)) × (p .length ≤ limit + 1) ⌝ }
-    ensures { λ r. ⌜ ((es : List ℕ) → r ≡ movedOf flattenItem itemBytes p (answer (upTo year) (takeItem (p .number) (here (tableOf (now (table .entry)) es (now (bytes .entry))) p)))) ⌝ }
+    ensures { λ r. ⌜ ((es : List ℕ)
+        → r ≡ movedOf flattenItem itemBytes p (answer (upTo year) (takeItem (p .number) (here (tableOf (now (table .entry)) es (now (bytes .entry))) p)))) ⌝ }
 {
     let number = p.number;
     let a = read_item(table, number);
@@ -244,7 +245,9 @@ pub fn take_item(table: &[u64], bytes: &[u8], p: Places, year: u32) -> Moved
 // So many items, one after another.
 pub fn take_items(table: &[u64], bytes: &[u8], p: Places, n: u64, year: u32) -> Moved
     requires { ⌜ At (now table) (now bytes) p × (p .number + itemWidth * n ≤ length (now table)) ⌝ }
-    ensures { λ r. ⌜ ((es : List ℕ) → r ≡ movedOf (joined flattenItem) (sumBy itemBytes) p (answer (upTo year) (many n itemWidth takeItem (p .number) (here (tableOf (now (table .entry)) es (now (bytes .entry))) p)))) ⌝ }
+    ensures { λ r. ⌜ ((es : List ℕ)
+        → r ≡ movedOf (joined flattenItem) (sumBy itemBytes) p
+        (answer (upTo year) (many n itemWidth takeItem (p .number) (here (tableOf (now (table .entry)) es (now (bytes .entry))) p)))) ⌝ }
 {
     let mut left = n;
     let mut at = p;

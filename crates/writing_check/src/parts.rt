@@ -31,7 +31,7 @@ use layout::sheet;
 use layout::subobject;
 use layout::years;
 
-// The first part's points, where the word is so.
+// The rules on the first part's points, beside the word at +24.
 fn first_rules(word: u64, points: u64, place: usize, year: u32) -> Step
     ensures { λ r. ⌜ Next Fine year place (firstRules word points) r ⌝ }
 {
@@ -47,7 +47,7 @@ fn first_rules(word: u64, points: u64, place: usize, year: u32) -> Step
     demand(a, !marked | (word == points), COUNT, place, row::POINTS)
 }
 
-// A later part's points; marked is whether the first count takes the mark.
+// The rules on a later part's points; marked says whether the first count takes the mark.
 fn later_rules(marked: bool, points: u64, place: usize) -> Step
     ensures { λ r. ⌜ ((y : ℕ) → Next Fine y place (laterRules marked points) r) ⌝ }
 {
@@ -67,7 +67,7 @@ fn later_rules(marked: bool, points: u64, place: usize) -> Step
     )
 }
 
-// The pool of elements from at on has them all, and none is too wide.
+// The rules on the elements of a part: the pool has them all from `at` on, and none is too wide.
 fn element_rules(elements: &[u64], at: usize, s: Shape, points: usize, place: usize) -> Step
     requires { ⌜ (at ≤ length (now elements)) × (points < 2 ^ 32) ⌝ }
     ensures { λ r. ⌜ ((y : ℕ) → Next Fine y place (elementsBy s points (drop at (now (elements .entry)))) r) ⌝ }
@@ -88,7 +88,7 @@ fn element_rules(elements: &[u64], at: usize, s: Shape, points: usize, place: us
     }
 }
 
-// The text length, with so many bytes left in the pool.
+// The rules on the text length, with so many bytes left in the pool.
 fn text_rules(s: Shape, size: u64, left: usize, place: usize) -> Step
     requires { ⌜ place + partWidth ≤ 2 ^ 64 ⌝ }
     ensures { λ r. ⌜ ((y : ℕ) → Next Fine y place (textBy s size left) r) ⌝ }
@@ -104,10 +104,11 @@ fn text_rules(s: Shape, size: u64, left: usize, place: usize) -> Step
     demand(a, size <= left as u64, TABLE, place, row::TEXT_LENGTH)
 }
 
-// Both pools at p.
+// The rules on what a part takes from the two pools, at the places p.
 fn pool_rules(elements: &[u64], bytes: &[u8], p: Places, s: Shape, points: usize, size: u64) -> Step
     requires { ⌜ (p .element ≤ length (now elements)) × (p .byte ≤ length (now bytes)) × (p .number + partWidth ≤ 2 ^ 64) × (points < 2 ^ 32) ⌝ }
-    ensures { λ r. ⌜ ((y : ℕ) → Next Fine y (p .number) (poolsBy s points size (drop (p .element) (now (elements .entry))) (drop (p .byte) (now (bytes .entry)))) r) ⌝ }
+    ensures { λ r. ⌜ ((y : ℕ)
+        → Next Fine y (p .number) (poolsBy s points size (drop (p .element) (now (elements .entry))) (drop (p .byte) (now (bytes .entry)))) r) ⌝ }
 {
     match element_rules(elements, p.element, s, points, p.number) {
         Step::Fine => text_rules(s, size, bytes.len() - p.byte, p.number),
@@ -127,7 +128,7 @@ fn part_length(s: Shape, points: usize, size: usize) -> usize
     n
 }
 
-// A part whose points were let through; head is how many bytes stand before them.
+// Takes what a part has in the two pools, once its points were let through; head is how many bytes stand before the points.
 fn take_pools(
     elements: &[u64],
     bytes: &[u8],
@@ -137,8 +138,11 @@ fn take_pools(
     size: u64,
     head: usize,
 ) -> Moved
-    requires { ⌜ (p .element ≤ length (now elements)) × (p .byte ≤ length (now bytes)) × (p .number + partWidth < 2 ^ 64) × (p .length ≤ limit + 1) × (points < 2 ^ 32) × (head ≤ Subobject.size) ⌝ }
-    ensures { λ r. ⌜ ((y : ℕ) (ns : List ℕ) → r ≡ movedOf flattenPart (headed head (referenceOf reference)) p (answer (upTo y) (poolWalk (referenceOf reference) points size (p .number) (here (tableOf ns (now (elements .entry)) (now (bytes .entry))) p)))) ⌝ }
+    requires { ⌜ (p .element ≤ length (now elements)) × (p .byte ≤ length (now bytes)) × (p .number + partWidth < 2 ^ 64) × (p .length ≤ limit + 1)
+        × (points < 2 ^ 32) × (head ≤ Subobject.size) ⌝ }
+    ensures { λ r. ⌜ ((y : ℕ) (ns : List ℕ)
+        → r ≡ movedOf flattenPart (headed head (referenceOf reference)) p
+        (answer (upTo y) (poolWalk (referenceOf reference) points size (p .number) (here (tableOf ns (now (elements .entry)) (now (bytes .entry))) p)))) ⌝ }
 {
     let s = shapes::shape_in(reference);
     let count = points as usize;
@@ -157,7 +161,7 @@ fn take_pools(
     }
 }
 
-// The first part of a record with that word.
+// Takes the first part of a record whose word at +24 is word.
 pub fn take_first(
     table: &[u64],
     elements: &[u64],
@@ -168,7 +172,9 @@ pub fn take_first(
     year: u32,
 ) -> Moved
     requires { ⌜ At (now table) (now bytes) p × (p .element ≤ length (now elements)) × (p .number + partWidth ≤ length (now table)) ⌝ }
-    ensures { λ r. ⌜ r ≡ movedOf flattenPart (partBytes (referenceOf reference)) p (answer (upTo year) (takePart (referenceOf reference) (firstRules word) (p .number) (here (tableOf (now (table .entry)) (now (elements .entry)) (now (bytes .entry))) p))) ⌝ }
+    ensures { λ r. ⌜ r ≡ movedOf flattenPart (partBytes (referenceOf reference)) p
+        (answer (upTo year) (takePart (referenceOf reference) (firstRules word) (p .number)
+        (here (tableOf (now (table .entry)) (now (elements .entry)) (now (bytes .entry))) p))) ⌝ }
 {
     let number = p.number;
     let points = table[number];
@@ -179,7 +185,7 @@ pub fn take_first(
     }
 }
 
-// A later part.
+// Takes a later part, which has N1 and N2 before its points.
 fn take_later(
     table: &[u64],
     elements: &[u64],
@@ -189,7 +195,10 @@ fn take_later(
     marked: bool,
 ) -> Moved
     requires { ⌜ At (now table) (now bytes) p × (p .element ≤ length (now elements)) × (p .number + partWidth ≤ length (now table)) ⌝ }
-    ensures { λ r. ⌜ ((y : ℕ) → r ≡ movedOf flattenPart (subobjectBytes (referenceOf reference)) p (answer (upTo y) (takePart (referenceOf reference) (laterRules marked) (p .number) (here (tableOf (now (table .entry)) (now (elements .entry)) (now (bytes .entry))) p)))) ⌝ }
+    ensures { λ r. ⌜ ((y : ℕ)
+        → r ≡ movedOf flattenPart (subobjectBytes (referenceOf reference)) p
+        (answer (upTo y) (takePart (referenceOf reference) (laterRules marked) (p .number)
+        (here (tableOf (now (table .entry)) (now (elements .entry)) (now (bytes .entry))) p)))) ⌝ }
 {
     let number = p.number;
     let points = table[number];
@@ -200,7 +209,7 @@ fn take_later(
     }
 }
 
-// So many later parts, one after another.
+// Takes n later parts, one after another.
 pub fn take_laters(
     table: &[u64],
     elements: &[u64],
@@ -211,7 +220,10 @@ pub fn take_laters(
     marked: bool,
 ) -> Moved
     requires { ⌜ At (now table) (now bytes) p × (p .element ≤ length (now elements)) × (p .number + partWidth * n ≤ length (now table)) ⌝ }
-    ensures { λ r. ⌜ ((y : ℕ) → r ≡ movedOf (joined flattenPart) (sumBy (subobjectBytes (referenceOf reference))) p (answer (upTo y) (many n partWidth (takePart (referenceOf reference) (laterRules marked)) (p .number) (here (tableOf (now (table .entry)) (now (elements .entry)) (now (bytes .entry))) p)))) ⌝ }
+    ensures { λ r. ⌜ ((y : ℕ)
+        → r ≡ movedOf (joined flattenPart) (sumBy (subobjectBytes (referenceOf reference))) p
+        (answer (upTo y) (many n partWidth (takePart (referenceOf reference) (laterRules marked)) (p .number)
+        (here (tableOf (now (table .entry)) (now (elements .entry)) (now (bytes .entry))) p)))) ⌝ }
 {
     let mut left = n;
     let mut at = p;

@@ -20,7 +20,7 @@ pub enum Moved {
     Refused(Refusal),
 }
 
-// So many bytes more.
+// A length with so many bytes added, and not counted past the limit and one.
 pub fn longer(so_far: usize, more: usize) -> usize
     requires { ⌜ («so_far» ≤ limit + 1) × (more < 2 ^ 60) ⌝ }
     ensures { λ r. ⌜ r ≡ capped («so_far» + more) ⌝ }

@@ -153,8 +153,10 @@ fn row_rules(a: Row, place: usize, left: usize, year: u32) -> Step
 
 // The parts and items of a row that was let through, at the places after its eight numbers.
 fn take_inside(table: &[u64], elements: &[u64], bytes: &[u8], a: Row, p: Places, year: u32) -> Moved
-    requires { ⌜ At (now table) (now bytes) p × (p .element ≤ length (now elements)) × (1 ≤ a .parts) × (p .number + (partWidth * a .parts + itemWidth * a .items) ≤ length (now table)) ⌝ }
-    ensures { λ r. ⌜ r ≡ movedOf insideTable insideBytes p (answer (upTo year) (takeInside (rowOf a) (p .number) (here (tableOf (now (table .entry)) (now (elements .entry)) (now (bytes .entry))) p))) ⌝ }
+    requires { ⌜ At (now table) (now bytes) p × (p .element ≤ length (now elements)) × (1 ≤ a .parts)
+        × (p .number + (partWidth * a .parts + itemWidth * a .items) ≤ length (now table)) ⌝ }
+    ensures { λ r. ⌜ r ≡ movedOf insideTable insideBytes p
+        (answer (upTo year) (takeInside (rowOf a) (p .number) (here (tableOf (now (table .entry)) (now (elements .entry)) (now (bytes .entry))) p))) ⌝ }
 {
     let number = p.number;
     let marked = sheet::MARK_U64 <= table[number];
@@ -178,7 +180,8 @@ fn take_inside(table: &[u64], elements: &[u64], bytes: &[u8], a: Row, p: Places,
 // One record.
 pub fn take_row(table: &[u64], elements: &[u64], bytes: &[u8], p: Places, year: u32) -> Moved
     requires { ⌜ At (now table) (now bytes) p × (p .element ≤ length (now elements)) ⌝ }
-    ensures { λ r. ⌜ r ≡ movedOf flattenRecord recordBytes p (answer (upTo year) (rowWalk (p .number) (here (tableOf (now (table .entry)) (now (elements .entry)) (now (bytes .entry))) p))) ⌝ }
+    ensures { λ r. ⌜ r ≡ movedOf flattenRecord recordBytes p
+        (answer (upTo year) (rowWalk (p .number) (here (tableOf (now (table .entry)) (now (elements .entry)) (now (bytes .entry))) p))) ⌝ }
 {
     let number = p.number;
     let left = table.len() - number;

@@ -90,7 +90,8 @@ pub fn put_header(
     out: &mut [u8],
     w: usize,
 )
-    requires { ⌜ (at + 9 ≤ length (now table)) × RowFits (drop at (now table)) × (w + Header.size ≤ length (now out)) × (Header.size + metric + semantics < 2 ^ 32) ⌝ }
+    requires { ⌜ (at + 9 ≤ length (now table)) × RowFits (drop at (now table)) × (w + Header.size ≤ length (now out))
+        × (Header.size + metric + semantics < 2 ^ 32) ⌝ }
     ensures { λ _. ⌜ now (out .exit) ≡ sets (now (out .entry)) w (headerOf (drop at (now (table .entry))) metric semantics) ⌝ }
 {
     put_lengths(out, w, metric, semantics);

@@ -33,7 +33,7 @@ fn emit_text(bytes: &[u8], at: usize, n: usize, text: bool, out: &mut [u8], w: u
     0
 }
 
-// A part.
+// Writes the points of a part and its text.
 pub fn emit_part(
     table: &[u64],
     elements: &[u64],
@@ -91,7 +91,7 @@ pub fn emit_subobject(
     emit_part(table, elements, bytes, s, d, out)
 }
 
-// So many later parts.
+// Writes n later parts, one after another.
 pub fn emit_subobjects(
     table: &[u64],
     elements: &[u64],
@@ -101,7 +101,8 @@ pub fn emit_subobjects(
     c: Cursor,
     out: &mut [u8],
 ) -> Cursor
-    requires { ⌜ Piece (joined flattenPart) (Counted n (PartFits s)) (flat (subobjectBytes s)) c (tableOf (now table) (now elements) (now bytes)) (length (now out)) ⌝ }
+    requires { ⌜ Piece (joined flattenPart) (Counted n (PartFits s)) (flat (subobjectBytes s)) c (tableOf (now table) (now elements) (now bytes))
+        (length (now out)) ⌝ }
     ensures { λ r. ⌜ Emitted (joined flattenPart) (Counted n (PartFits s)) (flat (subobjectBytes s)) c
         (tableOf (now (table .entry)) (now (elements .entry)) (now (bytes .entry))) (now (out .entry)) (now (out .exit)) r ⌝ }
 {
@@ -114,7 +115,7 @@ pub fn emit_subobjects(
     acc
 }
 
-// The first part, and so many later ones.
+// Writes the metric of a record: the first part, and n later ones.
 pub fn emit_metric(
     table: &[u64],
     elements: &[u64],

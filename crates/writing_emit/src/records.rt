@@ -76,7 +76,8 @@ pub fn emit_records(
     c: Cursor,
     out: &mut [u8],
 ) -> Cursor
-    requires { ⌜ Piece (joined flattenRecord) (Counted n FineRecord) (flat encodeRecord) c (tableOf (now table) (now elements) (now bytes)) (length (now out)) ⌝ }
+    requires { ⌜ Piece (joined flattenRecord) (Counted n FineRecord) (flat encodeRecord) c
+        (tableOf (now table) (now elements) (now bytes)) (length (now out)) ⌝ }
     ensures { λ r. ⌜ Emitted (joined flattenRecord) (Counted n FineRecord) (flat encodeRecord) c
         (tableOf (now (table .entry)) (now (elements .entry)) (now (bytes .entry))) (now (out .entry)) (now (out .exit)) r ⌝ }
 {

@@ -1,4 +1,4 @@
-// A record table that pass 1 has accepted.
+// The writer's second pass, over a record table that the first has accepted.
 ghost use mathlib.Core.List.{List};
 ghost use mathlib.Core.Path.{_≡_};
 ghost use lib.ListN.{length};
@@ -13,7 +13,7 @@ ghost use Rattle.laws.proofs.Writing.Records.{NearRecord};
 use crate::cursors::Cursor;
 use crate::records;
 
-// The records of the table, from w on.
+// Writes the records of the table to out, from w on.
 pub fn emit(table: &[u64], elements: &[u64], bytes: &[u8], records: usize, out: &mut [u8], w: usize)
     requires { ⌜ Accepted (now table) (now elements) (now bytes) records w (length (now out)) ⌝ }
     ensures { λ _. ⌜ ((rs : List Record) → All NearRecord rs → flatten rs ≡ tableOf (now (table .entry)) (now (elements .entry)) (now (bytes .entry))

@@ -1,4 +1,4 @@
-// The writer's checks on the head, by place in the sheet.
+// The writer's rules on the head, by place in the sheet.
 ghost use mathlib.Core.List.{[], _∷_};
 ghost use mathlib.Core.Path.{_≡_};
 ghost use Prim.Native.Nat.{ℕ, _≤_};
@@ -29,7 +29,7 @@ fn is_text(text: &[u8], width: usize) -> bool
     false
 }
 
-// It is never shortened. (01, The record table: "TEXT for a text too long or with a zero")
+// A text that does not fit is refused and never shortened. (01, The record table: "TEXT for a text too long or with a zero")
 fn text_fits(so_far: Step, text: &[u8], place: usize, width: usize) -> Step
     ensures { λ r. ⌜ ((y : ℕ) → Next «so_far» y 0 (textFits (field place width) (now (text .entry)) ∷ []) r) ⌝ }
 {

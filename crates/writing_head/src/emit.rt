@@ -30,10 +30,12 @@ fn emit_start(date: &[u8], out: &mut [u8])
     texts::put_text(date, passport::DATE_WIDTH, out, passport::DATE);
 }
 
-// From its designation on.
+// The passport from its designation on.
 fn emit_names(designation: &[u8], scale: u32, title: &[u8], rest: &[u8], out: &mut [u8])
-    requires { ⌜ (length (now designation) ≤ Passport.designation .width) × (length (now title) ≤ Passport.title .width) × (length (now rest) ≡ Passport.rest .width) × (Descriptor.identifier .place ≤ length (now out)) ⌝ }
-    ensures { λ _. ⌜ now (out .exit) ≡ sets (now (out .entry)) (Passport.designation .place) (nameBytes (now (designation .entry)) scale (now (title .entry)) (now (rest .entry))) ⌝ }
+    requires { ⌜ (length (now designation) ≤ Passport.designation .width) × (length (now title) ≤ Passport.title .width)
+        × (length (now rest) ≡ Passport.rest .width) × (Descriptor.identifier .place ≤ length (now out)) ⌝ }
+    ensures { λ _. ⌜ now (out .exit) ≡ sets (now (out .entry)) (Passport.designation .place)
+        (nameBytes (now (designation .entry)) scale (now (title .entry)) (now (rest .entry))) ⌝ }
 {
     texts::put_text(
         designation,
@@ -47,8 +49,10 @@ fn emit_names(designation: &[u8], scale: u32, title: &[u8], rest: &[u8], out: &m
 }
 
 fn emit_descriptor(designation2: &[u8], count: u32, carried: &[u8], out: &mut [u8])
-    requires { ⌜ (length (now designation2) ≤ Descriptor.designation .width) × (length (now carried) ≡ Descriptor.carried .width) × (start ≤ length (now out)) ⌝ }
-    ensures { λ _. ⌜ now (out .exit) ≡ sets (now (out .entry)) (Descriptor.identifier .place) (descriptorBytes (now (designation2 .entry)) count (now (carried .entry))) ⌝ }
+    requires { ⌜ (length (now designation2) ≤ Descriptor.designation .width) × (length (now carried) ≡ Descriptor.carried .width)
+        × (start ≤ length (now out)) ⌝ }
+    ensures { λ _. ⌜ now (out .exit) ≡ sets (now (out .entry)) (Descriptor.identifier .place)
+        (descriptorBytes (now (designation2 .entry)) count (now (carried .entry))) ⌝ }
 {
     numbers::put_u32(out, descriptor::IDENTIFIER, descriptor::IDENTIFIER_IS);
     numbers::put_u32(out, descriptor::OWN_LENGTH, descriptor::OWN_LENGTH_IS);
@@ -80,7 +84,8 @@ pub fn emit(
     count: u32,
     out: &mut [u8],
 )
-    requires { ⌜ (length (now date) ≤ Passport.date .width) × (length (now designation) ≤ Passport.designation .width) × (length (now title) ≤ Passport.title .width) × (length (now rest) ≡ Passport.rest .width)
+    requires { ⌜ (length (now date) ≤ Passport.date .width) × (length (now designation) ≤ Passport.designation .width)
+        × (length (now title) ≤ Passport.title .width) × (length (now rest) ≡ Passport.rest .width)
         × (length (now designation2) ≤ Descriptor.designation .width) × (length (now carried) ≡ Descriptor.carried .width) × (start ≤ length (now out)) ⌝ }
     ensures { λ _. ⌜ now (out .exit) ≡ sets (now (out .entry)) 0 (encodeHead (headOf (now (date .entry)) (now (designation .entry)) scale
         (now (title .entry)) (now (rest .entry)) (now (designation2 .entry)) (now (carried .entry))) 0 count) ⌝ }

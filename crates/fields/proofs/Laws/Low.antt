@@ -19,7 +19,8 @@ power-positive (suc n) = omega (arith, power-positive n)
 pub bytes-low : (n v : ℕ) → bytes n (v % 256 ^ n) ≡ bytes n v
 bytes-low zero v = refl
 bytes-low (suc n) v =
-    let e : v % 256 ^ suc n ≡ v / 256 % 256 ^ n * 256 + v % 256 = ap (λ (k : ℕ). v % k) (pow-succ' 256 n ∙ mul-comm 256 (256 ^ n)) ∙ mod-mul v (power-positive n) (omega arith) in
+    let e : v % 256 ^ suc n ≡ v / 256 % 256 ^ n * 256 + v % 256 = ap (λ (k : ℕ). v % k) (pow-succ' 256 n ∙ mul-comm 256 (256 ^ n))
+    ∙ mod-mul v (power-positive n) (omega arith) in
     let low : v % 256 ^ suc n % 256 ≡ v % 256 = omega (arith, e) in
     let high : v % 256 ^ suc n / 256 ≡ v / 256 % 256 ^ n = omega (arith, e) in
     rw (low, high, bytes-low n (v / 256)) refl

@@ -14,15 +14,18 @@ module _ {p : ℕ} {size float three : Bool} (one : OneWidth p size float three)
   pub elements-ask : (at xl w ol : ℕ) → at + count * dimensions three ≤ xl → w + count * pointBytes size float three ≤ ol → (at + n ≤ xl) × (w + p * n ≤ ol)
   elements-ask at xl w ol h k = rw (bytes-count one count n e, e) (h, k)
 
-  pub elements-wrote : (old new ys : List ℕ) (w : ℕ) → new ≡ sets old w (storedAll (repeat n (p ∷ [])) ys) → new ≡ sets old w (storedAll (repeat count (elementWidths size float three)) ys)
+  pub elements-wrote : (old new ys : List ℕ) (w : ℕ) → new ≡ sets old w (storedAll (repeat n (p ∷ [])) ys)
+      → new ≡ sets old w (storedAll (repeat count (elementWidths size float three)) ys)
   elements-wrote old new ys w g = g ∙ ap (λ l. sets old w (storedAll l ys)) (widths-repeat one count n e)
 
 module _ (size float three : Bool) (a : size ≡ false) (b : float ≡ false) (t : three ≡ true) where
-  pub points-ask : (count at xl w ol : ℕ) → at + count * dimensions three ≤ xl → w + count * pointBytes size float three ≤ ol → (at + 3 * count ≤ xl) × (w + 8 * count ≤ ol)
+  pub points-ask : (count at xl w ol : ℕ) → at + count * dimensions three ≤ xl → w + count * pointBytes size float three ≤ ol
+      → (at + 3 * count ≤ xl) × (w + 8 * count ≤ ol)
   points-ask count at xl w ol h k =
       let i : at + count * 3 ≤ xl = rw t at h in
       let j : w + count * 8 ≤ ol = rw (a, b, t) at k in
       (omega arith, omega arith)
 
-  pub points-wrote : (count : ℕ) (old new ys : List ℕ) (w : ℕ) → new ≡ sets old w (storedAll (repeat count (2 ∷ 2 ∷ 4 ∷ [])) ys) → new ≡ sets old w (storedAll (repeat count (elementWidths size float three)) ys)
+  pub points-wrote : (count : ℕ) (old new ys : List ℕ) (w : ℕ) → new ≡ sets old w (storedAll (repeat count (2 ∷ 2 ∷ 4 ∷ [])) ys)
+      → new ≡ sets old w (storedAll (repeat count (elementWidths size float three)) ys)
   points-wrote count old new ys w g = rw (wide224 size float three a b t) g

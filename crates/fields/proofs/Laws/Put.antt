@@ -54,7 +54,8 @@ module _ (ws xs : List ℕ) (at n w : ℕ) (out₀ : List ℕ) where
       let e : n - 0 ≡ n = omega arith in
       record { len = refl; le = omega arith; eq = rw (mul-zero, mul-zero, add-zero, add-zero, e) refl }
 
-  pub put-turn : (i : ℕ) (out out′ : List ℕ) → Putting i out → i < n → out′ ≡ sets out (w + length ws * i) (numbers ws (drop (at + total ws * i) xs)) → Putting (i + 1) out′
+  pub put-turn : (i : ℕ) (out out′ : List ℕ) → Putting i out → i < n → out′ ≡ sets out (w + length ws * i) (numbers ws (drop (at + total ws * i) xs))
+      → Putting (i + 1) out′
   put-turn i out out′ g h e =
       let ys : List ℕ = drop (at + total ws * i) xs in
       let m : n - i - 1 ≡ n - (i + 1) = omega arith in

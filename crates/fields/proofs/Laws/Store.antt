@@ -76,7 +76,21 @@ store-three a b k xs o p out₀ out₁ out₂ out₃ h e₁ e₂ e₃ =
     let p2 : p + 2 ≡ suc (suc p) = omega arith in
     let there : drop p xs ≡ getD xs p 0 ∷ getD xs (p + 1) 0 ∷ getD xs (p + 2) 0 ∷ drop (suc (suc (suc p))) xs =
     rw (p1, p2, drop-cons xs p 0 (omega arith), drop-cons xs (suc p) 0 (omega arith), drop-cons xs (suc (suc p)) 0 (omega arith)) refl in
-    rw (there, append-nil, sets-append, sets-append, length-bytes, length-bytes, e₃, e₂, e₁, bytes-low a (getD xs p 0), bytes-low b (getD xs (p + 1) 0), bytes-low k (getD xs (p + 2) 0), ← add-assoc) refl
+    rw (
+      there,
+      append-nil,
+      sets-append,
+      sets-append,
+      length-bytes,
+      length-bytes,
+      e₃,
+      e₂,
+      e₁,
+      bytes-low a (getD xs p 0),
+      bytes-low b (getD xs (p + 1) 0),
+      bytes-low k (getD xs (p + 2) 0),
+      ← add-assoc,
+    ) refl
 
 -- zeros are copied from a list of them
 module _ (n w : ℕ) (out₀ : List ℕ) where
@@ -84,12 +98,14 @@ module _ (n w : ℕ) (out₀ : List ℕ) where
   Clearing i out = Copying (replicate n 0) 0 n w out₀ i out
 
   pub clear-turn : (i : ℕ) (out : List ℕ) → Clearing i out → i < n → Clearing (i + 1) (set out (w + i) 0)
-  clear-turn i out g h = copy-turn (replicate n 0) 0 n w out₀ i out g h (rw length-replicate (omega arith)) 0 (rw (zero-add, getD-replicate {A = ℕ} n i 0 0 h) refl)
+  clear-turn i out g h =
+      copy-turn (replicate n 0) 0 n w out₀ i out g h (rw length-replicate (omega arith)) 0 (rw (zero-add, getD-replicate {A = ℕ} n i 0 0 h) refl)
 
   pub clear-done : (i : ℕ) (out : List ℕ) → Clearing i out → n ≤ i → out ≡ sets out₀ w (replicate n 0)
   clear-done i out g h = copy-done (replicate n 0) 0 n w out₀ i out g h ∙ ap (sets out₀ w) (take-all n (replicate n 0) (rw length-replicate (omega arith)))
 
 -- a text, and then zeros
 pub text-zeros : (out text : List ℕ) (w width : ℕ)
-    → sets (sets out w (take (length text) (drop 0 text))) (w + length text) (replicate (width - length text) 0) ≡ sets out w (text ++ replicate (width - length text) 0)
+    → sets (sets out w (take (length text) (drop 0 text))) (w + length text) (replicate (width - length text) 0) ≡ sets out w
+    (text ++ replicate (width - length text) 0)
 text-zeros out text w width = rw (take-all (length text) text (omega arith), sets-append) refl

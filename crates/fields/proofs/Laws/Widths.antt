@@ -57,7 +57,8 @@ module _ {p : ℕ} {size float three : Bool} (one : OneWidth p size float three)
   pub bytes-count : p * n ≡ count * pointBytes size float three
   bytes-count =
       let p1 : total (p ∷ []) ≡ p = omega arith in
-      mul-comm p n ∙ ap (λ (k : ℕ). n * k) (sym p1) ∙ sym (total-repeat n (p ∷ [])) ∙ ap total widths-repeat ∙ total-repeat count (elementWidths size float three) ∙ ap (λ (k : ℕ). count * k) (sym (point-is-elements size float three))
+      mul-comm p n ∙ ap (λ (k : ℕ). n * k) (sym p1) ∙ sym (total-repeat n (p ∷ [])) ∙ ap total widths-repeat
+      ∙ total-repeat count (elementWidths size float three) ∙ ap (λ (k : ℕ). count * k) (sym (point-is-elements size float three))
 
   pub elements-count : n ≡ count * length (elementWidths size float three)
   elements-count = sym (mul-one n) ∙ sym (length-repeat n (p ∷ [])) ∙ ap length widths-repeat ∙ length-repeat count (elementWidths size float three)

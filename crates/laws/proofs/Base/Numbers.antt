@@ -58,13 +58,21 @@ numbers-stored [] [] r f = refl
 numbers-stored [] (e ∷ es) r f = absurd f
 numbers-stored (w ∷ ws) [] r f = absurd f
 numbers-stored (w ∷ ws) (e ∷ es) r f =
-    rw (append-assoc, number-bytes w e (storedAll ws es ++ r) (f .0), drop-at (bytes w e) (storedAll ws es ++ r) w (length-bytes w e), numbers-stored ws es r (f .1))
+    rw (
+      append-assoc,
+      number-bytes w e (storedAll ws es ++ r) (f .0),
+      drop-at (bytes w e) (storedAll ws es ++ r) w (length-bytes w e),
+      numbers-stored ws es r (f .1),
+    )
 
 pub stored-numbers : (ws xs : List ℕ) → Bytes xs → total ws ≤ length xs → FitAll ws (numbers ws xs) × (storedAll ws (numbers ws xs) ++ drop (total ws) xs ≡ xs)
 stored-numbers [] xs bs h = (tt, refl)
 stored-numbers (w ∷ ws) xs bs h =
-    let b = stored-numbers ws (drop w xs) (all-drop _ w xs bs) (rw length-drop (omega arith)) in
-    ((number-lt w xs bs, b .0), took-both (bytes w (number w xs)) (storedAll ws (numbers ws (drop w xs))) xs w (total ws) (bytes-number w xs bs (omega arith)) (b .1))
+    let b = stored-numbers ws (drop w xs) (all-drop _ w xs bs) (rw length-drop (omega arith)) in (
+      (number-lt w xs bs, b .0),
+      took-both (bytes w (number w xs)) (storedAll ws (numbers ws (drop w xs))) xs w (total ws) (bytes-number w xs bs (omega arith))
+          (b .1),
+    )
 
 pub length-numbers : (ws xs : List ℕ) → length (numbers ws xs) ≡ length ws
 length-numbers [] xs = refl

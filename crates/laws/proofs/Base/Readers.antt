@@ -11,9 +11,11 @@ use lib.Seq.{drop-drop, drop-append-seam}
 use native.Mathlib.Omega.{arith}
 use Rattle.layout.specs.Answers.Calls.{andThen}
 use Rattle.layout.specs.Bytes.{All, flat, Bytes}
-use Rattle.layout.specs.Walk.{Walk, ends, outcome, Answer, given, refused, answer, upTo, always, _>>=_, _>>_, must, Piece, piece, Reader, times, pair, filling, fill, whole}
+use Rattle.layout.specs.Walk.{Walk, ends, outcome, Answer, given, refused, answer, upTo, always, _>>=_, _>>_, must, Piece, piece, Reader, times, pair, filling}
+use Rattle.layout.specs.Walk.{fill, whole}
 use Rattle.laws.proofs.Base.Lists.{all-drop}
-use Rattle.laws.proofs.Base.Walks.{given-inj, answer-bind, bind-case, bind-on, checks-case, checks-on, Allowed, allowed-append, allowed-always, allowed-upTo, outcome-is}
+use Rattle.laws.proofs.Base.Walks.{given-inj, answer-bind, bind-case, bind-on, checks-case, checks-on, Allowed, allowed-append, allowed-always}
+use Rattle.laws.proofs.Base.Walks.{allowed-upTo, outcome-is}
 
 -- what a reader took: v is the value and the count of its bytes
 abbrev pub Took : {A : Type 0} → (ℕ → Bool) → (A → List ℕ) → (A → Type 0) → (A → List ℕ) → List ℕ → Piece A → Type 0
@@ -56,13 +58,15 @@ module _ {A : Type 0} (al : ℕ → Bool) (r : Reader A) (E : A → List ℕ) (F
       rw (append-assoc (E a) (flat E l) rest)
       (bind-on al (r p (E a ++ (flat E l ++ rest))) _ (piece a (length (E a))) (R .complete p a (flat E l ++ rest) (f .0) (z .0))
       ∙ rw (drop-append-seam (E a) (flat E l ++ rest))
-      (bind-on al (times (length l) r (p + length (E a)) (flat E l ++ rest)) _ (piece l (length (flat E l))) (times-complete (p + length (E a)) l rest (f .1) (z .1))
+      (bind-on al (times (length l) r (p + length (E a)) (flat E l ++ rest)) _ (piece l (length (flat E l)))
+      (times-complete (p + length (E a)) l rest (f .1) (z .1))
       ∙ rw (length-append (E a) (flat E l))))
 
   pub times-reads : (n : ℕ) → Reads al (times n r) (flat E) (λ l. (length l ≡ n) × All F l) (flat Y)
   times-reads n = record {
     sound = times-sound n;
-    complete = λ p l rest f y. subst (λ m. answer al (times m r p (flat E l ++ rest)) ≡ given (piece l (length (flat E l)))) (f .0) (times-complete p l rest (f .1) y);
+    complete = λ p l rest f y. subst (λ m. answer al (times m r p (flat E l ++ rest)) ≡ given (piece l (length (flat E l)))) (f .0)
+        (times-complete p l rest (f .1) y);
   }
 
   pub whole-fills : (n : ℕ) → Fills al (whole n r) E F Y
@@ -77,7 +81,8 @@ module _ {A : Type 0} (al : ℕ → Bool) (r : Reader A) (E : A → List ℕ) (F
     complete = λ p a f y.
         let h : answer al (r p (E a)) ≡ given (piece a (length (E a))) = rw append-nil at (R .complete p a [] f y) in
         bind-on al (r p (E a)) _ (piece a (length (E a))) h
-        ∙ checks-on al (p + length (E a)) (must (leb (length (E a)) (length (E a))) n 0 ∷ []) (ends a) (le-leb (length (E a)) (length (E a)) (omega arith), tt) tt;
+        ∙ checks-on al (p + length (E a)) (must (leb (length (E a)) (length (E a))) n 0 ∷ []) (ends a)
+        (le-leb (length (E a)) (length (E a)) (omega arith), tt) tt;
   }
 
   module _ (grows : (a : A) → 0 < length (E a)) where
@@ -90,7 +95,8 @@ module _ {A : Type 0} (al : ℕ → Bool) (r : Reader A) (E : A → List ℕ) (F
         bind-case al (r p (x ∷ xs)) _ l e λ t i j.
         bind-case al (filling r f (p + t .size) (drop (t .size) (x ∷ xs))) _ l j λ m q g.
         let s = R .sound p (x ∷ xs) bs t i in
-        let z = filling-sound f (p + t .size) (drop (t .size) (x ∷ xs)) (rw length-drop (omega (arith, grows (t .value)))) (all-drop _ (t .size) (x ∷ xs) bs) m q in
+        let z = filling-sound f (p + t .size) (drop (t .size) (x ∷ xs)) (rw length-drop (omega (arith, grows (t .value))))
+        (all-drop _ (t .size) (x ∷ xs) bs) m q in
         rw (← (given-inj g)) ((s .0, z .0), allowed-append al (Y (t .value)) (flat Y m) .1 (s .1, z .1), rw (z .2) (s .3))
 
     filling-step : (f p : ℕ) (xs : List ℕ) → 0 < length xs
@@ -135,14 +141,17 @@ pair-reads al r E F Y R s G H Z S = record {
   complete = λ p t x f y.
       let z = allowed-append al (Y (t .first)) (Z (t .second)) .0 y in
       rw (append-assoc (E (t .first)) (G (t .second)) x)
-      (bind-on al (r p (E (t .first) ++ (G (t .second) ++ x))) _ (piece (t .first) (length (E (t .first)))) (R .complete p (t .first) (G (t .second) ++ x) (f .0) (z .0))
+      (bind-on al (r p (E (t .first) ++ (G (t .second) ++ x))) _ (piece (t .first) (length (E (t .first))))
+      (R .complete p (t .first) (G (t .second) ++ x) (f .0) (z .0))
       ∙ rw (drop-append-seam (E (t .first)) (G (t .second) ++ x))
-      (bind-on al (s (p + length (E (t .first))) (G (t .second) ++ x)) _ (piece (t .second) (length (G (t .second)))) (S .complete (p + length (E (t .first))) (t .second) x (f .1) (z .1))
+      (bind-on al (s (p + length (E (t .first))) (G (t .second) ++ x)) _ (piece (t .second) (length (G (t .second))))
+      (S .complete (p + length (E (t .first))) (t .second) x (f .1) (z .1))
       ∙ rw (length-append (E (t .first)) (G (t .second)))));
 }
 
 -- so many pieces are so many
-pub times-length : {A : Type 0} (al : ℕ → Bool) (r : Reader A) (n p : ℕ) (xs : List ℕ) (v : Piece (List A)) → answer al (times n r p xs) ≡ given v → length (v .value) ≡ n
+pub times-length : {A : Type 0} (al : ℕ → Bool) (r : Reader A) (n p : ℕ) (xs : List ℕ) (v : Piece (List A)) → answer al (times n r p xs) ≡ given v
+    → length (v .value) ≡ n
 times-length al r zero p xs v e = rw (← (given-inj e)) refl
 times-length al r (suc n) p xs v e =
     bind-case al (r p xs) _ v e λ a h i.

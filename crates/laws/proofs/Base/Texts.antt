@@ -38,7 +38,8 @@ text-back f xs bs h e =
     let t = textOf xs in
     let o = both-true (ltb (length t) (length xs)) (zeros (drop (length t) xs)) e in
     let fit : length t < length xs = ltb-true _ _ (o .0) in
-    let pad : drop (length t) xs ≡ replicate (f .width - length t) 0 = zeros-back (drop (length t) xs) (o .1) ∙ ap (λ k. replicate k 0) (length-drop (length t) xs ∙ ap (λ k. k - length t) h) in
+    let pad : drop (length t) xs ≡ replicate (f .width - length t) 0 = zeros-back (drop (length t) xs) (o .1)
+    ∙ ap (λ k. replicate k 0) (length-drop (length t) xs ∙ ap (λ k. k - length t) h) in
     let plain : Bytes t × Bytes (drop (length t) xs) = all-append _ t (drop (length t) xs) .0 (rw (text-split xs) bs) in
     (record { short = omega arith; nonzero = text-nonzero xs; isBytes = plain .0 }, rw (← pad) (text-split xs))
 
@@ -53,5 +54,8 @@ length-padded f t h = rw (length-append, length-replicate) (omega arith)
 -- a fine text is read back as it was stored
 pub text-on : (f : Field) (t : List ℕ) → FineText f t → (textOf (padded f t) ≡ t) × (isTextField (padded f t) ≡ true)
 text-on f t h =
-    let e : textOf (padded f t) ≡ t = text-of t (f .width - length t) (h .nonzero) in
-    (e, rw (e, length-padded f t (h .short), lt-ltb (length t) (f .width) (h .short), drop-append-seam t (replicate (f .width - length t) 0)) (zeros-on (f .width - length t)))
+    let e : textOf (padded f t) ≡ t = text-of t (f .width - length t) (h .nonzero) in (
+      e,
+      rw (e, length-padded f t (h .short), lt-ltb (length t) (f .width) (h .short), drop-append-seam t (replicate (f .width - length t) 0))
+          (zeros-on (f .width - length t)),
+    )

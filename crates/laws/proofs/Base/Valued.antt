@@ -22,7 +22,8 @@ module _ {A : Type 0} (al : ℕ → Bool) (r : Reader A) (one : List ℕ → A) 
       (sym (given-inj g) ∙ ap (λ z. z .value) (b .0), b .1)
 
   -- the walk itself, out of the whole
-  pub whole-inner : {C : Type 0} (refusal p : ℕ) (xs : List ℕ) (a : A) → answer al (whole refusal r p xs) ≡ given a → ((t : Piece A) → answer al (r p xs) ≡ given t → C) → C
+  pub whole-inner : {C : Type 0} (refusal p : ℕ) (xs : List ℕ) (a : A) → answer al (whole refusal r p xs) ≡ given a
+      → ((t : Piece A) → answer al (r p xs) ≡ given t → C) → C
   whole-inner refusal p xs a e k = bind-case al (r p xs) _ a e λ t h i. k t h
 
 pub pair-valued : {A B : Type 0} (al : ℕ → Bool) (r : Reader A) (one : List ℕ → A) (size : List ℕ → ℕ) → Valued al r one size
@@ -36,6 +37,8 @@ pair-valued al r one size R q other more Q = record {
       let b = Q .value (p + t .size) (drop (t .size) xs) u j in
       let s : t .size ≡ size xs = ap (λ z. z .size) (a .0) in
       let c : u ≡ piece (other (drop (size xs) xs)) (more (drop (size xs) xs)) = subst (λ k. u ≡ piece (other (drop k xs)) (more (drop k xs))) s (b .0) in
-      let d : more (drop (size xs) xs) ≤ length (drop (size xs) xs) = subst (λ k. more (drop k xs) ≤ length (drop k xs)) s (b .1) in
-      (sym (given-inj g) ∙ ap₂ (λ x y. piece (record { first = x .value; second = y .value }) (x .size + y .size)) (a .0) c, omega (arith, d, a .1, length-drop (size xs) xs));
+      let d : more (drop (size xs) xs) ≤ length (drop (size xs) xs) = subst (λ k. more (drop k xs) ≤ length (drop k xs)) s (b .1) in (
+        sym (given-inj g) ∙ ap₂ (λ x y. piece (record { first = x .value; second = y .value }) (x .size + y .size)) (a .0) c,
+        omega (arith, d, a .1, length-drop (size xs) xs),
+      );
 }

@@ -9,7 +9,8 @@ use native.Mathlib.Omega.{arith}
 use Rattle.layout.specs.Answers.Calls.{andThen}
 use Rattle.layout.specs.Bytes.{All, flat}
 use Rattle.layout.specs.Refusals.{TOO-NEW}
-use Rattle.layout.specs.Walk.{Walk, ends, stops, meets, outcome, Answer, given, refused, answer, upTo, always, _>>=_, _>>_, Check, must, dated, checks, holds, yearsOf}
+use Rattle.layout.specs.Walk.{Walk, ends, stops, meets, outcome, Answer, given, refused, answer, upTo, always, _>>=_, _>>_, Check, must, dated, checks, holds}
+use Rattle.layout.specs.Walk.{yearsOf}
 use Rattle.laws.proofs.Base.Lists.{all-append}
 
 pub given-inj : {A : Type 0} {a b : A} → given a ≡ given b → a ≡ b

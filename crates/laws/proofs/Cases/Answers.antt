@@ -40,7 +40,8 @@ calls = (refl, refl, refl, refl, refl, refl, refl, refl, refl)
 
 -- Q's record as the third, behind two of P's
 found : foundOf (asked 2017 (sealed (sheet 0 3 (point 2 0 36 [] ++ point 2 0 36 [] ++ point 2 2 42 (1 ∷ 0 ∷ 2 ∷ 255 ∷ 249 ∷ 4 ∷ [])))) 2)
-    ≡ Found.Record (record { place = 524; total = 42; code = 0; «in_group» = 0; group = 0; reference = 514; generalisation = 255; word = 0; parts = 1; items = 1; points = 1 })
+    ≡ Found.Record (record
+    { place = 524; total = 42; code = 0; «in_group» = 0; group = 0; reference = 514; generalisation = 255; word = 0; parts = 1; items = 1; points = 1 })
 unfolding computing
 found = refl
 
@@ -51,7 +52,17 @@ views : (unitIn (reading 2017 sheetE) ≡ Units.Unit Unit-is.DevicePoints)
     × (unitIn (reading 2017 (sealed (with 315 (0x80 ∷ []) (with 236 (65 ∷ []) sheetE)))) ≡ Units.Unit Unit-is.Degrees)
     × (unitIn (reading 2017 (sheet 796 0 [])) ≡ Units.Refused (record { number = 5; place = 12; year = 0 }))
     × (cornersIn (reading 2017 (sealed (with 166 (0xF0 ∷ 0x3F ∷ []) sheetE)))
-    ≡ Corners.Doubles (record { «sw_x» = zeroDouble; «sw_y» = zeroDouble; «nw_x» = zeroDouble; «nw_y» = zeroDouble; «ne_x» = zeroDouble; «ne_y» = zeroDouble; «se_x» = zeroDouble; «se_y» = ofBits binary64 0x3FF0000000000000 }))
+    ≡ Corners.Doubles (record {
+      «sw_x» = zeroDouble;
+      «sw_y» = zeroDouble;
+      «nw_x» = zeroDouble;
+      «nw_y» = zeroDouble;
+      «ne_x» = zeroDouble;
+      «ne_y» = zeroDouble;
+      «se_x» =
+          zeroDouble;
+      «se_y» = ofBits binary64 0x3FF0000000000000;
+    }))
     -- the third corner is no number: its place, and all eight as stored
     × (cornersIn (reading 2017 (sealed (with 126 (0xF8 ∷ 0x7F ∷ []) sheetE)))
     ≡ Corners.Bits 120 (record { «sw_x» = 0; «sw_y» = 0; «nw_x» = 0x7FF8000000000000; «nw_y» = 0; «ne_x» = 0; «ne_y» = 0; «se_x» = 0; «se_y» = 0 }))

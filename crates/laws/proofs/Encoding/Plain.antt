@@ -10,7 +10,8 @@ use Rattle.layout.specs.Fields.Header
 use Rattle.layout.specs.Fields.Item as ItemField
 use Rattle.layout.specs.Fields.Passport
 use Rattle.layout.specs.Fields.Subobject
-use Rattle.layout.specs.Layout.Encode.{encodeItem, encodeText, encodePart, encodeSubobject, encodeMetric, encodeSemantics, encodeHeader, encodeRecord, encodeHead, encodeWith, sheetSum, encode}
+use Rattle.layout.specs.Layout.Encode.{encodeItem, encodeText, encodePart, encodeSubobject, encodeMetric, encodeSemantics, encodeHeader, encodeRecord}
+use Rattle.layout.specs.Layout.Encode.{encodeHead, encodeWith, sheetSum, encode}
 use Rattle.layout.specs.Layout.Fine.{FineItem, FineLabel, FinePart, FineSubobject, FineRecord, FineHead, Fine}
 use Rattle.layout.specs.Shared.Mark.{pointsOf}
 use Rattle.layout.specs.Shared.Reference.{textInMetric}

@@ -36,7 +36,8 @@ hop-record place (r ∷ l) s (suc n) f e h =
     let len : numberIn Header.total (drop place s) ≡ length (encodeRecord r) = total-is r (drop place s) (flat encodeRecord l) (f .0) e in
     let next : ℕ = place + length (encodeRecord r) in
     let rest : drop next s ≡ flat encodeRecord l =
-    sym (drop-drop (length (encodeRecord r)) place s) ∙ ap (λ x. drop (length (encodeRecord r)) x) e ∙ drop-append-seam (encodeRecord r) (flat encodeRecord l) in
+    sym (drop-drop (length (encodeRecord r)) place s) ∙ ap (λ x. drop (length (encodeRecord r)) x) e
+    ∙ drop-append-seam (encodeRecord r) (flat encodeRecord l) in
     let same : placeIn (suc n) place s ≡ placeIn n next s = ap (λ k. placeIn n (place + k) s) len in
     let found = hop-record next l s n (f .1) rest (omega arith) in (
       found .0,

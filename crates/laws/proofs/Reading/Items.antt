@@ -15,7 +15,8 @@ use Rattle.layout.specs.Layout.Fine.{FineItem}
 use Rattle.layout.specs.Layout.Uses.{itemYears}
 use Rattle.layout.specs.Reading.Items.{kindIn, valueAt, valueSize, itemSize, itemIn, itemChecks, itemWalk}
 use Rattle.layout.specs.Refusals.{LENGTH}
-use Rattle.layout.specs.Shared.Types.{Kind, narrow, wide, long, integer, double, unknown, kindOf, isKnown, isLong, goodScale, lengthBytes, valueLength, goodLength, isClosed}
+use Rattle.layout.specs.Shared.Types.{Kind, narrow, wide, long, integer, double, unknown, kindOf, isKnown, isLong, goodScale, lengthBytes, valueLength}
+use Rattle.layout.specs.Shared.Types.{goodLength, isClosed}
 use Rattle.layout.specs.Sheet.{Item}
 use Rattle.layout.specs.Walk.{given, must, holds, piece}
 use Rattle.layout.specs.Years.{since, type-128}

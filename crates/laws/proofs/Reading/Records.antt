@@ -225,7 +225,8 @@ record-sound : (al : ℕ → Bool) (p : ℕ) (xs : List ℕ) → Bytes xs → (v
 unfolding recordWalk recordWith countChecks
 record-sound al p xs bs v e =
     let h : Header = headerIn xs in
-    let body : Walk (Piece Record) = bodyWalk h (p + Field.size) (metricIn (headerIn xs) xs) (semanticsIn (headerIn xs) xs) >>= λ r. ends (piece r (h .total)) in
+    let body : Walk (Piece Record) =
+    bodyWalk h (p + Field.size) (metricIn (headerIn xs) xs) (semanticsIn (headerIn xs) xs) >>= λ r. ends (piece r (h .total)) in
     checks-case al p (must (leb Field.size (length xs)) SHORT 0 ∷ []) _ v e λ c y e0.
     let e1 = subst (λ w. answer al w ≡ given v) (header-walk p (length xs) h body) e0 in
     checks-case al p (lengthChecks (length xs) h) _ v e1 λ cl yl e2.

@@ -7,7 +7,8 @@ use lib.Dec.{leb, eqb}
 use lib.ListN.{length, drop}
 use native.Mathlib.Omega.{arith}
 use Rattle.layout.specs.Refusals.{TOO-NEW}
-use Rattle.layout.specs.Walk.{Walk, ends, stops, meets, refused, answer, upTo, always, _>>=_, _>>_, Check, must, dated, checks, Reader, times, pair, filling, fill, whole}
+use Rattle.layout.specs.Walk.{Walk, ends, stops, meets, refused, answer, upTo, always, _>>=_, _>>_, Check, must, dated, checks, Reader, times, pair, filling}
+use Rattle.layout.specs.Walk.{fill, whole}
 use Rattle.layout.specs.Writing.Tables.{Taker, many}
 use Rattle.layout.specs.Sheet.{Table}
 use Rattle.laws.proofs.Base.Lists.{_&_}

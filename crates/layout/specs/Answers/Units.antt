@@ -71,7 +71,8 @@ units : (unitOf 0x03 0 0 0 ≡ DevicePoints) × (unitOf 0x03 0 0 64 ≡ DevicePo
 unfolding unitOf
 units = (refl, refl, refl, refl, refl, refl, refl, refl)
 
-numbers : (numberOf (As.Short 65535) ≡ Is.Whole (pos 65535)) × (numberOf (As.Long 4294967295) ≡ Is.Whole (negsuc 0)) × (numberOf (As.Long 2147483647) ≡ Is.Whole (pos 2147483647))
+numbers : (numberOf (As.Short 65535) ≡ Is.Whole (pos 65535)) × (numberOf (As.Long 4294967295) ≡ Is.Whole (negsuc 0))
+    × (numberOf (As.Long 2147483647) ≡ Is.Whole (pos 2147483647))
     × (numberOf (As.Single 0x7F800001) ≡ Is.NotNumber 0x7F800001) × (numberOf (As.Single 0x7F800000) ≡ Is.Single (ofBits binary32 0x7F800000))
     × (numberOf (As.Double 0xFFF8000000000000) ≡ Is.NotNumber 0xFFF8000000000000)
 unfolding numberOf nanBits
@@ -81,6 +82,8 @@ numbers = (refl, refl, refl, refl, refl, refl)
 abbrev of : ℕ → ℕ → Reference
 of b21 b22 = record { byte20 = 0; byte21 = b21; byte22 = b22 }
 
-elements : (planarElement (of 0 0) 7 ≡ As.Short 7) × (planarElement (of 0 4) 7 ≡ As.Single 7) × (planarElement (of 4 0) 7 ≡ As.Long 7) × (planarElement (of 4 4) 7 ≡ As.Double 7)
-    × (heightElement (of 0 2) 7 ≡ As.Single 7) × (heightElement (of 4 2) 7 ≡ As.Single 7) × (heightElement (of 0 6) 7 ≡ As.Single 7) × (heightElement (of 4 6) 7 ≡ As.Double 7)
+elements : (planarElement (of 0 0) 7 ≡ As.Short 7) × (planarElement (of 0 4) 7 ≡ As.Single 7) × (planarElement (of 4 0) 7 ≡ As.Long 7)
+    × (planarElement (of 4 4) 7 ≡ As.Double 7)
+    × (heightElement (of 0 2) 7 ≡ As.Single 7) × (heightElement (of 4 2) 7 ≡ As.Single 7) × (heightElement (of 0 6) 7 ≡ As.Single 7)
+    × (heightElement (of 4 6) 7 ≡ As.Double 7)
 elements = (refl, refl, refl, refl, refl, refl, refl, refl)

@@ -97,8 +97,10 @@ kinds : (kindOf 0 ≡ narrow) × (kindOf 126 ≡ narrow) × (kindOf 127 ≡ wide
     × (kindOf 8 ≡ double) × (kindOf 128 ≡ long) × (kindOf 3 ≡ unknown) × (kindOf 125 ≡ unknown) × (kindOf 129 ≡ unknown) × (kindOf 255 ≡ unknown)
 kinds = (refl, refl, refl, refl, refl, refl, refl, refl, refl, refl, refl, refl)
 
-cases : (goodScale (integer 2) 0x80 ≡ false) × (goodScale (integer 2) 0x81 ≡ true) × (goodScale long 0xFE ≡ false) × (goodScale double 0x80 ≡ true) × (goodScale narrow 0x80 ≡ true)
-    × (valueLength narrow 0 9 ≡ 1) × (valueLength wide 3 9 ≡ 8) × (valueLength (integer 4) 3 9 ≡ 4) × (valueLength double 3 9 ≡ 8) × (valueLength long 255 9 ≡ 9)
+cases : (goodScale (integer 2) 0x80 ≡ false) × (goodScale (integer 2) 0x81 ≡ true) × (goodScale long 0xFE ≡ false) × (goodScale double 0x80 ≡ true)
+    × (goodScale narrow 0x80 ≡ true)
+    × (valueLength narrow 0 9 ≡ 1) × (valueLength wide 3 9 ≡ 8) × (valueLength (integer 4) 3 9 ≡ 4) × (valueLength double 3 9 ≡ 8)
+    × (valueLength long 255 9 ≡ 9)
     × (goodLength long 2 ≡ true) × (goodLength long 0 ≡ false) × (goodLength long 3 ≡ false)
     × (isClosed narrow (7 ∷ 0 ∷ []) ≡ true) × (isClosed narrow (0 ∷ 7 ∷ []) ≡ false)
     -- two closing zeros, and one of them missing

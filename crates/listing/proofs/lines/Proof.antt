@@ -1,3 +1,4 @@
+-- Only safety and an end are to be shown: the loop never counts past the records, and the records left get fewer.
 use native.Mathlib.Omega.{arith}
 use Prim.Native.Nat.{_≤_, _-_}
 use borrow.Author.Needs.{needs}

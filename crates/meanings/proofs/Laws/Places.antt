@@ -15,7 +15,8 @@ use mathlib.Core.Path.{_≡_, refl, sym, _∙_}
 use native.Mathlib.Omega.{arith}
 
 -- one corner, by its test: the answer names this place, or a later one
-stop : (test : Bool) (place later : ℕ) (c : CornerBits) (m : Corners) → (cond test place later ≡ 0 → ⊥) → ((later ≡ 0 → ⊥) → m ≡ Bits later c) → cond test (Bits place c) m ≡ Bits (cond test place later) c
+stop : (test : Bool) (place later : ℕ) (c : CornerBits) (m : Corners) → (cond test place later ≡ 0 → ⊥) → ((later ≡ 0 → ⊥) → m ≡ Bits later c)
+    → cond test (Bits place c) m ≡ Bits (cond test place later) c
 stop true place later c m h k = refl
 stop false place later c m h k = k h
 

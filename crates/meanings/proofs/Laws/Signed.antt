@@ -47,6 +47,7 @@ pub whole : {a x : ℤ} → mag a < 2 ^ 63 → a ≡ x → toZ w64 (ofZ w64 a) �
 whole h e = toZ-ofZ (record { sfits = h }) ∙ e
 
 -- and two in a struct
-pub decimal : {a b x y : ℤ} → mag a < 2 ^ 63 → mag b < 2 ^ 63 → a ≡ x → b ≡ y → _≡_ {A = Decimal} (record { whole = toZ w64 (ofZ w64 a); power = toZ w64 (ofZ w64 b) }) (record { whole = x; power = y })
+pub decimal : {a b x y : ℤ} → mag a < 2 ^ 63 → mag b < 2 ^ 63 → a ≡ x → b ≡ y
+    → _≡_ {A = Decimal} (record { whole = toZ w64 (ofZ w64 a); power = toZ w64 (ofZ w64 b) }) (record { whole = x; power = y })
 decimal {a} {b} {x} {y} ha hb e f =
     ap (λ (z : ℤ). record { whole = z; power = toZ w64 (ofZ w64 b) }) (whole ha e) ∙ ap (λ (z : ℤ). record { whole = x; power = z }) (whole hb f)

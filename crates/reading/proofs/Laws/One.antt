@@ -28,6 +28,7 @@ use Rattle.layout.specs.declared.Found.{Found}
 use Rattle.layout.specs.declared.Found.the-variants as Find
 use Rattle.layout.specs.declared.RecordAt.{RecordAt}
 use Rattle.layout.specs.declared.Refusal.{Refusal}
+use Rattle.layout.specs.Refusals.{ASK}
 use Rattle.laws.proofs.Base.Walks.{Allowed, allowed-append, answer-bind, given-inj}
 use Rattle.laws.proofs.Encoding.Lengths.{length-record}
 use Rattle.laws.proofs.Reading.Hops.{At, hop-record, hop-past}
@@ -43,9 +44,23 @@ pub by-header : (xs : List ℕ) (place count total code inGroup group b20 b21 b2
     → reference ≡ referenceNumber (record { byte20 = b20; byte21 = b21; byte22 = b22 }) → generalisation ≡ number 1 (drop 23 xs)
     → word ≡ number 4 (drop 24 xs) → subobjects ≡ number 2 (drop 28 xs) → items ≡ (count - (10 + 2 * subobjects)) / 4
     → points ≡ number 2 (drop 30 xs) → first ≡ firstCount points word
-    → record { place = place; total = total; code = code; «in_group» = inGroup; group = group; reference = reference; generalisation = generalisation; word = word; parts = 1 + subobjects; items = items; points = first }
+    → record {
+      place = place;
+      total = total;
+      code = code;
+      «in_group» = inGroup;
+      group = group;
+      reference = reference;
+      generalisation = generalisation;
+      word =
+          word;
+      parts = 1 + subobjects;
+      items = items;
+      points = first;
+    }
     ≡ recordBy place count (headerIn xs)
-by-header xs place count total code inGroup group b20 b21 b22 reference generalisation word subobjects items points first et ec ei eg e20 e21 e22 er en ew es em ep ef =
+by-header xs place count total code inGroup group b20 b21 b22 reference generalisation word subobjects items points first et ec ei eg e20 e21 e22 er en ew es em
+    ep ef =
     rw (et, ec, ei, eg, er, e20, e21, e22, en, em, ef, ew, es, ep) refl
 
 -- one record is a list of one
@@ -87,7 +102,7 @@ module _ (year : ℕ) (s : List ℕ) (number count : ℕ) (a : AcceptedAt s year
   asked-is : asked ≡ foundOf (recordOf start (a .sheet .records) number)
   asked-is = ap (λ v. foundOf (andThen v (λ t. recordOf start (t .records) number))) (a .is)
 
-  pub past : count ≤ number → Find.Refused (refusal 16 0 0) ≡ asked
+  pub past : count ≤ number → Find.Refused (refusal ASK 0 0) ≡ asked
   unfolding foundOf
   past h = sym (asked-is ∙ ap foundOf (hop-past start (a .sheet .records) number (omega (arith, a .records))))
 

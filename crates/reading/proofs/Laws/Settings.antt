@@ -8,6 +8,7 @@ use Rattle.layout.specs.Years.{isSetting}
 use Rattle.layout.specs.declared.Checked.the-variants as Check
 use Rattle.layout.specs.declared.Checked.{Checked}
 use Rattle.layout.specs.declared.Refusal.{Refusal}
+use Rattle.layout.specs.Refusals.{ASK}
 use Rattle.meanings.proofs.Laws.Settings.{made-nine}
 use Rattle.meanings.specs.Settings.{madeOf}
 use Rattle.meanings.specs.declared.setting.Made.the-variants.{At, Refused}
@@ -28,7 +29,7 @@ at-known y x k s z m r o e a q h =
     let nine : isSetting y ≡ true = rw (n .0) at (n .1) in
     h ∙ rw (same, nine) refl
 
-by-test : (test : Bool) (y : ℕ) (q : Refusal) (s : List ℕ) → isSetting y ≡ test → Refused q ≡ madeOf (cond test (given y) (refused 16 0 0))
+by-test : (test : Bool) (y : ℕ) (q : Refusal) (s : List ℕ) → isSetting y ≡ test → Refused q ≡ madeOf (cond test (given y) (refused ASK 0 0))
     → Check.Refused q ≡ checkedOf (reading y s)
 unfolding reading checkedOf madeOf
 by-test true y q s t e = absurd (let z : _≡_ {A = ℕ} 0 1 = cc in omega arith)

@@ -78,7 +78,8 @@ module _ (y : ℕ) (s t₀ e₀ b₀ : List ℕ) (z : Sizes) (a : Seen y s z) wh
   bytes-is = ap (λ (x : Sizes). x .bytes) (sym (a .sizes))
 
   pub short-1 : length t₀ < z .numbers → Unfolded y s t₀ e₀ b₀ t₀ e₀ b₀ (Check.Refused (refusal ROOM 1 0))
-  short-1 h = no-room 1 (let n : leb (length (u .numbers)) (length t₀) ≡ false = lt-leb (length (u .numbers)) (length t₀) (omega (arith, numbers-is, h)) in rw n refl)
+  short-1 h = no-room 1
+      (let n : leb (length (u .numbers)) (length t₀) ≡ false = lt-leb (length (u .numbers)) (length t₀) (omega (arith, numbers-is, h)) in rw n refl)
 
   pub short-2 : z .numbers ≤ length t₀ → length e₀ < z .elements → Unfolded y s t₀ e₀ b₀ t₀ e₀ b₀ (Check.Refused (refusal ROOM 2 0))
   short-2 g h =

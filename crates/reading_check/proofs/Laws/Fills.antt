@@ -44,15 +44,19 @@ module _ {A : Type 0} (f : A → Table) (r : Reader A) (y : ℕ) (s : Sized (upT
           let l = length-drop (a .size) (x ∷ xs) in
           let n : length (x ∷ xs) ≡ a .size + (length (x ∷ xs) - a .size) = omega arith in
           let D : List ℕ = drop (a .size) (x ∷ xs) in
-          shown-plus y (tallies f (length (x ∷ xs) - a .size)) (tallies f (length (x ∷ xs))) (filling r (length xs) (p + a .size) D) (λ more. a .value ∷ more) (tally f a)
-          (λ more. ap (λ k. tallyOf k (join (f (a .value)) (joined f more))) n ∙ tally-join (a .size) (length (x ∷ xs) - a .size) (f (a .value)) (joined f more))
-          ∙ ap (λ t. plus (tally f a) (countedOf (tallies f (length (x ∷ xs) - a .size)) t)) (filling-fuel (upTo y) r s (length xs) (length D) (p + a .size) D (omega (arith, z, l)) (omega arith))
+          shown-plus y (tallies f (length (x ∷ xs) - a .size)) (tallies f (length (x ∷ xs))) (filling r (length xs) (p + a .size) D) (λ more. a .value ∷ more)
+          (tally f a)
+          (λ more. ap (λ k. tallyOf k (join (f (a .value)) (joined f more))) n
+          ∙ tally-join (a .size) (length (x ∷ xs) - a .size) (f (a .value)) (joined f more))
+          ∙ ap (λ t. plus (tally f a) (countedOf (tallies f (length (x ∷ xs) - a .size)) t))
+          (filling-fuel (upTo y) r s (length xs) (length D) (p + a .size) D (omega (arith, z, l)) (omega arith))
       go (refused n q z) e = refl
 
 module _ {A : Type 0} (f : A → Table) (r : Reader A) (p : ℕ) (xs : List ℕ) (y : ℕ) where
   -- with acc the counts of those behind, the answer of the whole is the answer of the rest with acc added
   pub record Going (acc : Tally) : Type 0 where
-    pub eq : shown (tallies f (length xs)) y (fill r p xs) ≡ plus acc (shown (tallies f (length xs - acc .used)) y (fill r (p + acc .used) (drop (acc .used) xs)))
+    pub eq : shown (tallies f (length xs)) y (fill r p xs) ≡ plus acc
+        (shown (tallies f (length xs - acc .used)) y (fill r (p + acc .used) (drop (acc .used) xs)))
 
   pub going-start : Going none
   going-start =

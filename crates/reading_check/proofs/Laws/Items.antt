@@ -23,7 +23,7 @@ use Rattle.layout.specs.Answers.Enums.{refusal}
 use Rattle.layout.specs.Bytes.{number, zeros}
 use Rattle.layout.specs.Reading.Items.{itemChecks, itemWalk, kindIn, valueAt, valueSize, itemSize, itemIn}
 use Rattle.layout.specs.Shared.Types.{Kind, narrow, wide, long, integer, double, unknown, isLong, goodLength, valueLength, closing, isClosed}
-use Rattle.layout.specs.Refusals.{LENGTH}
+use Rattle.layout.specs.Refusals.{LENGTH, SEMANTIC, TEXT}
 use Rattle.layout.specs.Walk.{upTo, must, checks, _>>_, ends, piece}
 use Rattle.layout.specs.Writing.Tables.{flattenItem}
 use Rattle.layout.specs.declared.Refusal.{Refusal}
@@ -89,7 +89,7 @@ module _ (y p : ℕ) (xs : List ℕ) (k : Shape) (s : Shaped xs k) (size : ℕ) 
   length-is : goodLength (kindIn xs) (valueSize xs) ≡ tests
   length-is = good-is (kindIn xs) (valueSize xs) ∙ rw (← e, ap (λ (z : Shape). z .long) (s .is)) refl
 
-  pub value-bad : tests ≡ false → Refused (refusal 12 (p + 4) 0) ≡ shown (tally flattenItem) y (valueWalk p xs)
+  pub value-bad : tests ≡ false → Refused (refusal SEMANTIC (p + 4) 0) ≡ shown (tally flattenItem) y (valueWalk p xs)
   unfolding valueWalk valueChecks
   value-bad h = simp (length-is, h)
 
@@ -97,10 +97,11 @@ module _ (y p : ℕ) (xs : List ℕ) (k : Shape) (s : Shaped xs k) (size : ℕ) 
     pub value-closes : k .closing ≤ size
     value-closes = rw (closing-is, e) (closing-under (kindIn xs) (number 1 (drop 3 xs)) (number 4 (drop 4 xs)) (valueSize xs) refl (length-is ∙ h))
 
-    pub value-short : length xs < k .at + size → Refused (refusal 10 p 0) ≡ shown (tally flattenItem) y (valueWalk p xs)
+    pub value-short : length xs < k .at + size → Refused (refusal LENGTH p 0) ≡ shown (tally flattenItem) y (valueWalk p xs)
     unfolding valueWalk valueChecks
     value-short l =
-        let m : leb (valueAt (kindIn xs) + valueSize xs) (length xs) ≡ false = lt-leb (valueAt (kindIn xs) + valueSize xs) (length xs) (omega (arith, at-is, e)) in
+        let m : leb (valueAt (kindIn xs) + valueSize xs) (length xs) ≡ false =
+        lt-leb (valueAt (kindIn xs) + valueSize xs) (length xs) (omega (arith, at-is, e)) in
         simp (length-is, h, m, add-zero)
 
     module _ (l : k .at + size ≤ length xs) where
@@ -110,10 +111,11 @@ module _ (y p : ℕ) (xs : List ℕ) (k : Shape) (s : Shaped xs k) (size : ℕ) 
       shut : isClosed (kindIn xs) (itemIn xs .value) ≡ zeros (take (k .closing) (drop (k .at + size - k .closing) xs))
       shut =
           rw (closing-is, at-is, e)
-          (ap zeros (last-of xs (valueAt (kindIn xs)) (valueSize xs) (closing (kindIn xs)) (omega (arith, value-closes, closing-is, e)) (omega (arith, at-is, e))))
+          (ap zeros (last-of xs (valueAt (kindIn xs)) (valueSize xs) (closing (kindIn xs)) (omega (arith, value-closes, closing-is, e))
+          (omega (arith, at-is, e))))
 
       pub value-open : zeros (take (k .closing) (drop (k .at + size - k .closing) xs)) ≡ false
-          → Refused (refusal 6 (p + (k .at + size - k .closing)) 0) ≡ shown (tally flattenItem) y (valueWalk p xs)
+          → Refused (refusal TEXT (p + (k .at + size - k .closing)) 0) ≡ shown (tally flattenItem) y (valueWalk p xs)
       unfolding valueWalk valueChecks
       value-open z = simp (length-is, h, fits, shut, z) (rw (at-is, e, closing-is) refl)
 
@@ -121,11 +123,12 @@ module _ (y p : ℕ) (xs : List ℕ) (k : Shape) (s : Shaped xs k) (size : ℕ) 
           → Fine (record { used = k .at + size; numbers = 4; elements = 0; bytes = size }) ≡ shown (tally flattenItem) y (valueWalk p xs)
       unfolding valueWalk valueChecks flattenItem
       value-fine z =
-          let n : length (take (valueSize xs) (drop (valueAt (kindIn xs)) xs)) ≡ valueSize xs = length-take-le _ _ (omega (arith, length-drop (valueAt (kindIn xs)) xs, at-is, e)) in
+          let n : length (take (valueSize xs) (drop (valueAt (kindIn xs)) xs)) ≡ valueSize xs =
+          length-take-le _ _ (omega (arith, length-drop (valueAt (kindIn xs)) xs, at-is, e)) in
           simp (length-is, h, fits, shut, z) (simp n (rw (at-is, e) refl))
 
 module _ (y p : ℕ) (xs : List ℕ) where
-  pub item-short : length xs < 4 → Refused (refusal 10 p 0) ≡ shown (tally flattenItem) y (itemWalk p xs)
+  pub item-short : length xs < 4 → Refused (refusal LENGTH p 0) ≡ shown (tally flattenItem) y (itemWalk p xs)
   unfolding itemWalk
   item-short h = simp (lt-leb 4 (length xs) h, add-zero)
 

@@ -23,6 +23,7 @@ use Rattle.layout.specs.Shared.Reference.{elementSize, floating, threeDimension
 use Rattle.layout.specs.Shared.Widths.{widths, pointSize, pointBytes}
 use Rattle.layout.specs.Sheet.{Reference}
 use Rattle.layout.specs.Writing.Tables.{flattenPart}
+use Rattle.layout.specs.Refusals.{COUNT, LENGTH}
 use Rattle.laws.proofs.Base.Numbers.{length-numbers, length-repeat}
 
 elements-are : (r : Reference) (count : ℕ) (xs : List ℕ)
@@ -51,7 +52,7 @@ module _ (y p count size : ℕ) (xs : List ℕ) (r : Reference) (s : Shape) (is 
   size-is : size ≡ count * pointSize r
   size-is = e ∙ ap (λ u. count * u) (point ∙ ap pointOf is)
 
-  pub part-short : length xs < size → Refused (refusal 10 p 0) ≡ shown (tally flattenPart) y (partWalk r count p xs)
+  pub part-short : length xs < size → Refused (refusal LENGTH p 0) ≡ shown (tally flattenPart) y (partWalk r count p xs)
   unfolding partWalk
   part-short h = simp (← size-is, lt-leb size (length xs) h, add-zero)
 
@@ -66,13 +67,13 @@ module _ (y p count size : ℕ) (xs : List ℕ) (r : Reference) (s : Shape) (is 
       (λ a. rw (elements-are r count xs, f, is) refl)))
 
 module _ (y p : ℕ) (xs : List ℕ) (r : Reference) (marked : Bool) where
-  pub subobject-short : length xs < 4 → Refused (refusal 10 p 0) ≡ shown (tally flattenPart) y (subobjectWalk r marked p xs)
+  pub subobject-short : length xs < 4 → Refused (refusal LENGTH p 0) ≡ shown (tally flattenPart) y (subobjectWalk r marked p xs)
   unfolding subobjectWalk
   subobject-short h = simp (lt-leb 4 (length xs) h, add-zero)
 
   module _ (l : 4 ≤ length xs) (n1 n2 : ℕ) (e : n1 ≡ number 2 xs) (f : n2 ≡ number 2 (drop 2 xs)) where
     pub subobject-count : (marked || eqb n1 0) ≡ false
-        → Refused (refusal 11 p 0) ≡ shown (tally flattenPart) y (subobjectWalk r marked p xs)
+        → Refused (refusal COUNT p 0) ≡ shown (tally flattenPart) y (subobjectWalk r marked p xs)
     unfolding subobjectWalk
     subobject-count h = simp (le-leb 4 (length xs) l, ← e, h, add-zero)
 

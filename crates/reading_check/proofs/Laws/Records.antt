@@ -28,7 +28,7 @@ use Rattle.layout.specs.Reading.Items.{itemWalk}
 use Rattle.layout.specs.Reading.Parts.{metricWalk}
 use Rattle.layout.specs.Reading.Records as Reading
 use Rattle.layout.specs.Reading.Records.{headerIn, lengthChecks, countChecks, headerWalk, bodyWalk, metricIn, semanticsIn, recordWith, recordWalk}
-use Rattle.layout.specs.Refusals.{LENGTH}
+use Rattle.layout.specs.Refusals.{LENGTH, SHORT}
 use Rattle.layout.specs.Shared.Mark.{isMark, firstCount}
 use Rattle.layout.specs.Shared.Reference.{referenceChecks, semantics}
 use Rattle.layout.specs.Sheet.{Item, Part, Record, Table}
@@ -47,7 +47,7 @@ module _ (y p : ℕ) (xs : List ℕ) (flag t : Bool) (front : Tally) (e : t ≡ 
   agrees : t ≡ agree flag (some xs)
   agrees = e ∙ ap (agree flag) (sym (some-is xs))
 
-  pub semantics-off : t ≡ false → Refused (refusal 10 p 0) ≡ semanticsOf flag front y p xs
+  pub semantics-off : t ≡ false → Refused (refusal LENGTH p 0) ≡ semanticsOf flag front y p xs
   semantics-off h = let a : agree flag (some xs) ≡ false = sym agrees ∙ h in rw a refl
 
   pub semantics-on : t ≡ true → (k : Counted) → k ≡ shown (λ l. tallyOf (length xs) (joined flattenItem l)) y (fill itemWalk p xs)
@@ -104,11 +104,16 @@ module _ (h : Reading.Header) (place : ℕ) (ms ss : List ℕ) (y : ℕ) (e : h 
   later m = semanticsOf (semantics (h .reference)) (add headTally m) y (place + h .metric) ss
 
   later-is : (v : Pair Part (List Part)) (b : Bool)
-      → shown (tally flattenRecord) y ((cond b (ends tt) (stops LENGTH (place + h .metric + 0)) >> (fill itemWalk (place + h .metric) ss >>= λ items. ends (recordOf h v items))) >>= λ r. ends (piece r (h .total)))
-      ≡ cond b (plus (add headTally (tallyOf (length ms) (metricTable v))) (shown (λ l. tallyOf (length ss) (joined flattenItem l)) y (fill itemWalk (place + h .metric) ss))) (Refused (refusal LENGTH (place + h .metric) 0))
+      → shown (tally flattenRecord) y
+      ((cond b (ends tt) (stops LENGTH (place + h .metric + 0)) >> (fill itemWalk (place + h .metric) ss >>= λ items. ends (recordOf h v items))) >>= λ r. ends
+      (piece r (h .total)))
+      ≡ cond b (plus (add headTally (tallyOf (length ms) (metricTable v)))
+      (shown (λ l. tallyOf (length ss) (joined flattenItem l)) y (fill itemWalk (place + h .metric) ss))) (Refused (refusal LENGTH (place + h .metric) 0))
   later-is v true =
-      ap (shown (tally flattenRecord) y) (bind-assoc (fill itemWalk (place + h .metric) ss) (λ items. ends (recordOf h v items)) (λ r. ends (piece r (h .total))))
-      ∙ shown-plus y (λ l. tallyOf (length ss) (joined flattenItem l)) (tally flattenRecord) (fill itemWalk (place + h .metric) ss) (λ items. piece (recordOf h v items) (h .total))
+      ap (shown (tally flattenRecord) y)
+      (bind-assoc (fill itemWalk (place + h .metric) ss) (λ items. ends (recordOf h v items)) (λ r. ends (piece r (h .total))))
+      ∙ shown-plus y (λ l. tallyOf (length ss) (joined flattenItem l)) (tally flattenRecord) (fill itemWalk (place + h .metric) ss)
+      (λ items. piece (recordOf h v items) (h .total))
       (add headTally (tallyOf (length ms) (metricTable v))) (λ items. record-tally h v items (length ms) (length ss) e)
   later-is v false = simp add-zero
 
@@ -140,7 +145,8 @@ module _ (xs : List ℕ) (h : Header) (P : Passed xs h) where
   pub semantics-cut : take (h .total - (32 + h .metric)) (drop (32 + h .metric) xs) ≡ semanticsIn (headerIn xs) xs
   semantics-cut =
       let n : h .total - (32 + h .metric) ≡ headerIn xs .total - 32 - headerIn xs .metric = omega (arith, metric-is, total-is) in
-      let d : drop (32 + h .metric) xs ≡ drop (headerIn xs .metric) (drop 32 xs) = ap (λ k. drop (32 + k) xs) metric-is ∙ sym (drop-drop (headerIn xs .metric) 32 xs) in
+      let d : drop (32 + h .metric) xs ≡ drop (headerIn xs .metric) (drop 32 xs) = ap (λ k. drop (32 + k) xs) metric-is
+      ∙ sym (drop-drop (headerIn xs .metric) 32 xs) in
       ap (λ k. take k (drop (32 + h .metric) xs)) n ∙ ap (λ l. take (headerIn xs .total - 32 - headerIn xs .metric) l) d
 
   pub metric-length : length (take (32 + h .metric - 32) (drop 32 xs)) ≡ h .metric
@@ -159,14 +165,18 @@ module _ (xs : List ℕ) (h : Header) (P : Passed xs h) where
       (means : k ≡ shown (λ v. tallyOf (length (take (32 + h .metric - 32) (drop 32 xs))) (metricTable v)) y
       (metricWalk (referenceOf h) (isMark (h .points)) count (h .subobjects) (p + 32) (take (32 + h .metric - 32) (drop 32 xs)))) where
     here : k ≡ shown (λ v. tallyOf (length (metricIn (headerIn xs) xs)) (metricTable v)) y
-        (metricWalk (headerIn xs .reference) (isMark (headerIn xs .points)) (firstCount (headerIn xs .points) (headerIn xs .word)) (headerIn xs .subobjects) (p + 32) (metricIn (headerIn xs) xs))
+        (metricWalk (headerIn xs .reference) (isMark (headerIn xs .points)) (firstCount (headerIn xs .points) (headerIn xs .word)) (headerIn xs .subobjects)
+        (p + 32) (metricIn (headerIn xs) xs))
     here =
         let a : k ≡ shown (λ v. tallyOf (length (metricIn (headerIn xs) xs)) (metricTable v)) y
         (metricWalk (referenceOf h) (isMark (h .points)) (firstCount (h .points) (h .word)) (h .subobjects) (p + 32) (metricIn (headerIn xs) xs)) =
-        subst (λ (l : List ℕ). k ≡ shown (λ v. tallyOf (length l) (metricTable v)) y (metricWalk (referenceOf h) (isMark (h .points)) (firstCount (h .points) (h .word)) (h .subobjects) (p + 32) l))
+        subst (λ (l : List ℕ). k ≡ shown (λ v. tallyOf (length l) (metricTable v)) y
+        (metricWalk (referenceOf h) (isMark (h .points)) (firstCount (h .points) (h .word)) (h .subobjects) (p + 32) l))
         metric-cut
-        (subst (λ (n : ℕ). k ≡ shown (λ v. tallyOf (length (take (32 + h .metric - 32) (drop 32 xs))) (metricTable v)) y (metricWalk (referenceOf h) (isMark (h .points)) n (h .subobjects) (p + 32) (take (32 + h .metric - 32) (drop 32 xs)))) c means) in
-        subst (λ (z : Header). k ≡ shown (λ v. tallyOf (length (metricIn (headerIn xs) xs)) (metricTable v)) y (metricWalk (referenceOf z) (isMark (z .points)) (firstCount (z .points) (z .word)) (z .subobjects) (p + 32) (metricIn (headerIn xs) xs)))
+        (subst (λ (n : ℕ). k ≡ shown (λ v. tallyOf (length (take (32 + h .metric - 32) (drop 32 xs))) (metricTable v)) y
+        (metricWalk (referenceOf h) (isMark (h .points)) n (h .subobjects) (p + 32) (take (32 + h .metric - 32) (drop 32 xs)))) c means) in
+        subst (λ (z : Header). k ≡ shown (λ v. tallyOf (length (metricIn (headerIn xs) xs)) (metricTable v)) y
+        (metricWalk (referenceOf z) (isMark (z .points)) (firstCount (z .points) (z .word)) (z .subobjects) (p + 32) (metricIn (headerIn xs) xs)))
         (P .is) a
 
     pub rest-stop : (q : Refusal) → k ≡ Refused q → Refused q ≡ shown (tally flattenRecord) y (restWalk p xs)
@@ -185,7 +195,7 @@ module _ (xs : List ℕ) (h : Header) (P : Passed xs h) where
 -- the header
 
 module _ (y p : ℕ) (xs : List ℕ) where
-  pub record-short : length xs < 32 → Refused (refusal 2 p 0) ≡ shown (tally flattenRecord) y (recordWalk p xs)
+  pub record-short : length xs < 32 → Refused (refusal SHORT p 0) ≡ shown (tally flattenRecord) y (recordWalk p xs)
   unfolding recordWalk
   record-short h = simp (lt-leb 32 (length xs) h, add-zero)
 
@@ -204,10 +214,12 @@ module _ (y p : ℕ) (xs : List ℕ) where
 
     module _ (r : Step) (n : Next Stp.Fine y p (headerChecks (length xs) h) r) where
       pub record-on : r ≡ Stp.Fine → (m : Counted) → m ≡ shown (tally flattenRecord) y (restWalk p xs) → m ≡ shown (tally flattenRecord) y (recordWalk p xs)
-      record-on f m g = g ∙ sym (ap (shown (tally flattenRecord) y) halves ∙ step-on y (tally flattenRecord) p (headerChecks (length xs) h) (restWalk p xs) r n f)
+      record-on f m g = g ∙ sym
+          (ap (shown (tally flattenRecord) y) halves ∙ step-on y (tally flattenRecord) p (headerChecks (length xs) h) (restWalk p xs) r n f)
 
       pub record-stop : (q : Refusal) → r ≡ Stp.Refused q → Refused q ≡ shown (tally flattenRecord) y (recordWalk p xs)
-      record-stop q f = step-stop y (tally flattenRecord) p (headerChecks (length xs) h) (restWalk p xs) r n q f ∙ sym (ap (shown (tally flattenRecord) y) halves)
+      record-stop q f = step-stop y (tally flattenRecord) p (headerChecks (length xs) h) (restWalk p xs) r n q f
+          ∙ sym (ap (shown (tally flattenRecord) y) halves)
 
       pub record-passed : r ≡ Stp.Fine → Passed xs h
       record-passed f =

@@ -27,7 +27,7 @@ use Rattle.layout.specs.Fields.Passport
 use Rattle.layout.specs.Layout.Encode.{encodeHead, encodeWith, sheetSum, encode}
 use Rattle.layout.specs.Reading.Records.{recordWalk}
 use Rattle.layout.specs.Reading.Sheets.{sizeChecks, passportChecks, descriptorChecks, reservedChecks, headIn, sheetWalk}
-use Rattle.layout.specs.Refusals.{LEFT-OVER}
+use Rattle.layout.specs.Refusals.{LEFT-OVER, SHORT, TOO-LONG}
 use Rattle.layout.specs.Shared.Carried.{restChecks, carriedChecks}
 use Rattle.layout.specs.Sheet.{Record, Sheet}
 use Rattle.layout.specs.Walk.{Walk, ends, Answer, given, refused, answer, upTo, checks, _>>=_, _>>_, Piece, times, whole}
@@ -91,11 +91,11 @@ module _ (s : List ℕ) (l : length s ≤ limit) (m : 452 ≤ length s) where
     head-stop q e = sym (ap checkedOf (ap (answer (upTo y)) halves ∙ step-stop y 0 (headChecks s) r n (tail s) q e))
 
 module _ (y : ℕ) (s : List ℕ) where
-  pub sheet-long : limit < length s → Check.Refused (refusal 1 0 0) ≡ checkedOf (answer (upTo y) (sheetWalk s))
+  pub sheet-long : limit < length s → Check.Refused (refusal TOO-LONG 0 0) ≡ checkedOf (answer (upTo y) (sheetWalk s))
   unfolding sheetWalk sizeChecks checkedOf
   sheet-long h = simp (lt-leb (length s) limit h)
 
-  pub sheet-short : length s ≤ limit → length s < 452 → Check.Refused (refusal 2 0 0) ≡ checkedOf (answer (upTo y) (sheetWalk s))
+  pub sheet-short : length s ≤ limit → length s < 452 → Check.Refused (refusal SHORT 0 0) ≡ checkedOf (answer (upTo y) (sheetWalk s))
   unfolding sheetWalk sizeChecks checkedOf
   sheet-short h i = simp (le-leb (length s) limit h, lt-leb 452 (length s) i)
 
@@ -116,22 +116,24 @@ module _ (y : ℕ) (s : List ℕ) (H : Headed s y) (k : Counted) (here : k ≡ s
       → Check.Refused q ≡ checkedOf (answer (upTo y) (sheetWalk s))
   unfolding checkedOf
   whole-refused q e =
-      let a : answer (upTo y) (sheetWalk s) ≡ refusedBy q = on ∙ bind-refused (upTo y) (whole LEFT-OVER (times (number 4 (drop 440 s)) recordWalk) 452 (drop 452 s)) _ e in
+      let a : answer (upTo y) (sheetWalk s) ≡ refusedBy q = on
+      ∙ bind-refused (upTo y) (whole LEFT-OVER (times (number 4 (drop 440 s)) recordWalk) 452 (drop 452 s)) _ e in
       sym (ap checkedOf a)
 
   pub sheet-stop : (q : Refusal) → k ≡ Refused q → Check.Refused q ≡ checkedOf (answer (upTo y) (sheetWalk s))
   sheet-stop q e = whole-refused q (bind-refused (upTo y) records _ (counted-stop (tally (joined flattenRecord)) (answer (upTo y) records) q (sym here ∙ e)))
 
   module _ (z : Tally) (e : k ≡ Fine z) where
-    pub sheet-left : z .used < length s - 452 → Check.Refused (refusal 13 (452 + z .used) 0) ≡ checkedOf (answer (upTo y) (sheetWalk s))
+    pub sheet-left : z .used < length s - 452 → Check.Refused (refusal LEFT-OVER (452 + z .used) 0) ≡ checkedOf (answer (upTo y) (sheetWalk s))
     sheet-left h =
         let v = counted-fine (tally (joined flattenRecord)) (answer (upTo y) records) z (sym here ∙ e) in
         let u : v .0 .size ≡ z .used = ap (λ (t : Tally). t .used) (v .2) in
         let t : leb (length (drop 452 s)) (v .0 .size) ≡ false = lt-leb (length (drop 452 s)) (v .0 .size) (omega (arith, u, length-drop 452 s)) in
-        whole-refused (refusal 13 (452 + z .used) 0) (bind-on (upTo y) records _ (v .0) (v .1) ∙ rw (t, u) (simp add-zero))
+        whole-refused (refusal LEFT-OVER (452 + z .used) 0) (bind-on (upTo y) records _ (v .0) (v .1) ∙ rw (t, u) (simp add-zero))
 
     pub sheet-fine : Bytes s → length s - 452 ≤ z .used → (sum : ℕ) → sum ≡ number 4 (drop 12 s) → (n : ℕ) → n ≡ number 4 (drop 440 s)
-        → Check.Accepted (record { sum = sum; records = n; numbers = z .numbers; elements = z .elements; bytes = z .bytes }) ≡ checkedOf (answer (upTo y) (sheetWalk s))
+        → Check.Accepted (record { sum = sum; records = n; numbers = z .numbers; elements = z .elements; bytes = z .bytes }) ≡ checkedOf
+        (answer (upTo y) (sheetWalk s))
     sheet-fine b h sum f n c =
         let v = counted-fine (tally (joined flattenRecord)) (answer (upTo y) records) z (sym here ∙ e) in
         let u : v .0 .size ≡ z .used = ap (λ (t : Tally). t .used) (v .2) in
@@ -139,7 +141,8 @@ module _ (y : ℕ) (s : List ℕ) (H : Headed s y) (k : Counted) (here : k ≡ s
         let w : answer (upTo y) (whole LEFT-OVER (times (number 4 (drop 440 s)) recordWalk) 452 (drop 452 s)) ≡ given (v .0 .value) =
         bind-on (upTo y) records _ (v .0) (v .1) ∙ rw t refl in
         let sheet : Sheet = record { head = headIn s; records = v .0 .value } in
-        let a : answer (upTo y) (sheetWalk s) ≡ given sheet = on ∙ bind-on (upTo y) (whole LEFT-OVER (times (number 4 (drop 440 s)) recordWalk) 452 (drop 452 s)) _ (v .0 .value) w in
+        let a : answer (upTo y) (sheetWalk s) ≡ given sheet = on
+        ∙ bind-on (upTo y) (whole LEFT-OVER (times (number 4 (drop 440 s)) recordWalk) 452 (drop 452 s)) _ (v .0 .value) w in
         let count : length (v .0 .value) ≡ n = times-length (upTo y) recordWalk (number 4 (drop 440 s)) 452 (drop 452 s) (v .0) (v .1) ∙ sym c in
         let same : sum ≡ sheetSum sheet = f ∙ sum-is y s b sheet a in
         accepted sheet (v .0 .size) z (v .2) n count sum same ∙ sym (ap checkedOf a)

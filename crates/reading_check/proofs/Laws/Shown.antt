@@ -70,7 +70,8 @@ module _ {A : Type 0} (y : ℕ) (f : A → Table) (r : Reader A) where
       ≡ next (shown (tally (joined f)) y (times k r p xs)) (λ z. plus z (shown (tally (joined f)) y (times m r (p + z .used) (drop (z .used) xs))))
   times-split zero m p xs = simp (zero-add, add-zero) (sym (plus-none (shown (tally (joined f)) y (times m r p xs))))
   times-split (suc k) m p xs =
-      rw (suc-add k m, times-shown (k + m) p xs, times-shown k p xs) (first (shown (tally f) y (r p xs)) (λ z. times-split k m (p + z .used) (drop (z .used) xs)))
+      rw (suc-add k m, times-shown (k + m) p xs, times-shown k p xs)
+      (first (shown (tally f) y (r p xs)) (λ z. times-split k m (p + z .used) (drop (z .used) xs)))
     where
       others : (z : Tally) (v : Counted)
           → plus z (next v (λ w. plus w (shown (tally (joined f)) y (times m r (p + z .used + w .used) (drop (w .used) (drop (z .used) xs))))))

@@ -13,6 +13,7 @@ use Rattle.reading_check.specs.declared.tally.Counted.the-variants.{Fine
 use Rattle.layout.specs.Answers.Enums.{refusal}
 use Rattle.layout.specs.Bytes.{number}
 use Rattle.layout.specs.Reading.Parts.{textWalk}
+use Rattle.layout.specs.Refusals.{LENGTH, TEXT}
 
 pub text-none : (y p : ℕ) (xs : List ℕ) (text : Bool) → text ≡ false
     → Fine (record { used = 0; numbers = 0; elements = 0; bytes = 0 }) ≡ shown (tally textTable) y (textWalk text p xs)
@@ -20,7 +21,7 @@ unfolding textWalk
 text-none y p xs text e = simp e
 
 module _ (y p n : ℕ) (xs : List ℕ) (e : n ≡ number 1 xs) where
-  pub text-short : length xs < n + 2 → Refused (refusal 10 p 0) ≡ shown (tally textTable) y (textWalk true p xs)
+  pub text-short : length xs < n + 2 → Refused (refusal LENGTH p 0) ≡ shown (tally textTable) y (textWalk true p xs)
   unfolding textWalk
   text-short h = simp (← e, lt-leb (n + 2) (length xs) h, add-zero)
 
@@ -33,6 +34,6 @@ module _ (y p n : ℕ) (xs : List ℕ) (e : n ≡ number 1 xs) where
         simp (← e, le-leb (n + 2) (length xs) h, eq-eqb _ _ z, l)
 
     pub text-open : (number 1 (drop (n + 1) xs) ≡ 0 → ⊥) → (place : ℕ) → place ≡ p + (n + 1)
-        → Refused (refusal 6 place 0) ≡ shown (tally textTable) y (textWalk true p xs)
+        → Refused (refusal TEXT place 0) ≡ shown (tally textTable) y (textWalk true p xs)
     unfolding textWalk
     text-open z place q = simp (← e, le-leb (n + 2) (length xs) h, ne-eqb _ _ z, q)

@@ -13,7 +13,8 @@ use Rattle.layout.specs.Bytes.{number, numbers, repeat}
 use Rattle.layout.specs.Shared.Widths.{elementWidths, pointBytes}
 
 module _ {p : ℕ} {size float three : Bool} (one : OneWidth p size float three) (count n : ℕ) (e : n ≡ count * dimensions three) where
-  pub elements-ask : (at xl w ol : ℕ) → at + count * pointBytes size float three ≤ xl → w + count * length (elementWidths size float three) ≤ ol → (at + p * n ≤ xl) × (w + n ≤ ol)
+  pub elements-ask : (at xl w ol : ℕ) → at + count * pointBytes size float three ≤ xl → w + count * length (elementWidths size float three) ≤ ol
+      → (at + p * n ≤ xl) × (w + n ≤ ol)
   elements-ask at xl w ol h k = omega (arith, bytes-count one count n e, elements-count one count n e)
 
   pub elements-wrote : (old new ys : List ℕ) (w : ℕ) → new ≡ sets old w (numbers (repeat n (p ∷ [])) ys)
@@ -21,7 +22,8 @@ module _ {p : ℕ} {size float three : Bool} (one : OneWidth p size float three)
   elements-wrote old new ys w g = g ∙ ap (λ l. sets old w (numbers l ys)) (widths-repeat one count n e)
 
 module _ (size float three : Bool) (a : size ≡ false) (b : float ≡ false) (t : three ≡ true) where
-  pub points-ask : (count at xl w ol : ℕ) → at + count * pointBytes size float three ≤ xl → w + count * length (elementWidths size float three) ≤ ol → (at + 8 * count ≤ xl) × (w + 3 * count ≤ ol)
+  pub points-ask : (count at xl w ol : ℕ) → at + count * pointBytes size float three ≤ xl → w + count * length (elementWidths size float three) ≤ ol
+      → (at + 8 * count ≤ xl) × (w + 3 * count ≤ ol)
   points-ask count at xl w ol h k =
       let i : at + count * 8 ≤ xl = rw (a, b, t) at h in
       let j : w + count * 3 ≤ ol = rw (a, b, t) at k in

@@ -64,7 +64,8 @@ module _ (xs : List ℕ) (c : Cursor) where
   pub item-some : (xl tl el bl : ℕ) → Room c (itemSize (drop (c .place) xs)) (flattenItem (itemIn (drop (c .place) xs))) xl tl el bl → c .place + 4 ≤ xl
   item-some xl tl el bl r = let q = r .place in omega (arith, q)
 
-  module _ (code kind scale : ℕ) (ec : code ≡ number 2 (drop (c .place) xs)) (ek : kind ≡ number 1 (drop (c .place + 2) xs)) (es : scale ≡ number 1 (drop (c .place + 3) xs)) where
+  module _ (code kind scale : ℕ) (ec : code ≡ number 2 (drop (c .place) xs)) (ek : kind ≡ number 1 (drop (c .place + 2) xs))
+      (es : scale ≡ number 1 (drop (c .place + 3) xs)) where
     kind-is : kind ≡ number 1 (drop 2 (drop (c .place) xs))
     kind-is = rw drop-drop ek
 
@@ -79,7 +80,8 @@ module _ (xs : List ℕ) (c : Cursor) where
         ap₂ (λ k s. valueLength (kindOf k) s (number 4 (drop (c .place + 4) xs))) kind-is scale-is
         ∙ ap (λ l. valueLength (kindIn (drop (c .place) xs)) (number 1 (drop 3 (drop (c .place) xs))) (number 4 l)) (sym (drop-drop 4 (c .place) xs))
 
-    pub item-value : (xl tl el bl : ℕ) → Room c (itemSize (drop (c .place) xs)) (flattenItem (itemIn (drop (c .place) xs))) xl tl el bl → c .place + valueAt (kindOf kind) ≤ xl
+    pub item-value : (xl tl el bl : ℕ) → Room c (itemSize (drop (c .place) xs)) (flattenItem (itemIn (drop (c .place) xs))) xl tl el bl
+        → c .place + valueAt (kindOf kind) ≤ xl
     item-value xl tl el bl r = let q = r .place in omega (arith, q, at-is)
 
     module _ (p n : ℕ) (ep : p ≡ valueAt (kindOf kind)) (en : n ≡ valueLength (kindOf kind) scale (number 4 (drop (c .place + 4) xs))) where
@@ -106,7 +108,8 @@ module _ (xs : List ℕ) (c : Cursor) where
         pub item-asks : (xl tl el bl : ℕ) → Room c (itemSize (drop (c .place) xs)) (flattenItem (itemIn (drop (c .place) xs))) xl tl el bl
             → (c .place + p + n ≤ xl) × (c .numbers + 4 ≤ tl) × (c .bytes + n ≤ bl)
         item-asks xl tl el bl r =
-            let q : Room c (itemSize (drop (c .place) xs)) (table (code ∷ kind ∷ scale ∷ n ∷ []) [] (take n (drop (c .place + p) xs))) xl tl el bl = rw item-table at r in
+            let q : Room c (itemSize (drop (c .place) xs)) (table (code ∷ kind ∷ scale ∷ n ∷ []) [] (take n (drop (c .place + p) xs))) xl tl el bl =
+            rw item-table at r in
             let l : length (take n (drop (c .place + p) xs)) ≡ n = ap length value-is ∙ value-length in
             (omega (arith, q .place, sum-is), q .numbers, omega (arith, q .bytes, l))
 
@@ -117,7 +120,8 @@ module _ (xs : List ℕ) (c : Cursor) where
             let z : c .elements ≡ c .elements + 0 = omega arith in
             rw item-table (λ j. record { place = sym sum-is j; numbers = c .numbers + 4; elements = z j; bytes = c .bytes + sym l j })
 
-        pub item-wrote : (t₀ b₀ t₁ b₁ : List ℕ) → t₁ ≡ sets t₀ (c .numbers) (code ∷ kind ∷ scale ∷ n ∷ []) → b₁ ≡ sets b₀ (c .bytes) (take n (drop (c .place + p) xs))
+        pub item-wrote : (t₀ b₀ t₁ b₁ : List ℕ) → t₁ ≡ sets t₀ (c .numbers) (code ∷ kind ∷ scale ∷ n ∷ [])
+            → b₁ ≡ sets b₀ (c .bytes) (take n (drop (c .place + p) xs))
             → Wrote c (flattenItem (itemIn (drop (c .place) xs))) t₀ [] b₀ t₁ [] b₁
         item-wrote t₀ b₀ t₁ b₁ ht hb = rw item-table (record { numbers = ht; elements = refl; bytes = hb })
 

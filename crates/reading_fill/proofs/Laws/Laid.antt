@@ -31,7 +31,8 @@ module _ (s : List ℕ) (tl el bl : ℕ) (a : Accepted s tl el bl) where
   sheet-long = seen .long
 
   pub sheet-asks : (n : ℕ) → n ≡ number 4 (drop 440 s)
-      → Room (record { place = 452; numbers = 0; elements = 0; bytes = 0 }) (timesSize recordSize n (drop 452 s)) (joined flattenRecord (timesIn recordIn recordSize n (drop 452 s))) (length s) tl el bl
+      → Room (record { place = 452; numbers = 0; elements = 0; bytes = 0 }) (timesSize recordSize n (drop 452 s))
+      (joined flattenRecord (timesIn recordIn recordSize n (drop 452 s))) (length s) tl el bl
       × Each RecordFits recordSize n (drop 452 s)
   unfolding flatten sheetRecords
   sheet-asks n e =
@@ -47,7 +48,8 @@ module _ (s : List ℕ) (tl el bl : ℕ) (a : Accepted s tl el bl) where
       )
 
   -- the three lists are as long as the slices at most
-  pub lists-fit : (length (flatten (sheetRecords s) .numbers) ≤ tl) × (length (flatten (sheetRecords s) .elements) ≤ el) × (length (flatten (sheetRecords s) .bytes) ≤ bl)
+  pub lists-fit : (length (flatten (sheetRecords s) .numbers) ≤ tl) × (length (flatten (sheetRecords s) .elements) ≤ el)
+      × (length (flatten (sheetRecords s) .bytes) ≤ bl)
   lists-fit = rw (← seen .records) (a .numbers, a .elements, a .bytes)
 
 pub sheet-filled : (s : List ℕ) (n : ℕ) → n ≡ number 4 (drop 440 s) → (t₀ e₀ b₀ t₁ e₁ b₁ : List ℕ)

@@ -111,17 +111,20 @@ module _ {A : Type 0} (one : List ℕ → A) (size : List ℕ → ℕ) (f : A �
           → (at ≡ moved c (timesSize size n (drop (c .place) xs)) (joined f (timesIn one size n (drop (c .place) xs))))
           × Wrote c (joined f (timesIn one size n (drop (c .place) xs))) t₀ e₀ b₀ t e b
       turns-done h =
-          left-done c _ _ t₀ e₀ b₀ at _ _ t e b g (times-size-none size left (drop (at .place) xs) h) (ap (λ l. joined f l) (times-none one size left (drop (at .place) xs) h))
+          left-done c _ _ t₀ e₀ b₀ at _ _ t e b g (times-size-none size left (drop (at .place) xs) h)
+          (ap (λ l. joined f l) (times-none one size left (drop (at .place) xs) h))
 
       module _ (h : 0 < left) where
-        size-first : timesSize size left (drop (at .place) xs) ≡ size (drop (at .place) xs) + timesSize size (left - 1) (drop (at .place + size (drop (at .place) xs)) xs)
+        size-first : timesSize size left (drop (at .place) xs) ≡ size (drop (at .place) xs) + timesSize size (left - 1)
+            (drop (at .place + size (drop (at .place) xs)) xs)
         size-first = times-size-cons size left (drop (at .place) xs) h ∙ rw drop-drop refl
 
         table-first : joined f (timesIn one size left (drop (at .place) xs))
             ≡ join (f (one (drop (at .place) xs))) (joined f (timesIn one size (left - 1) (drop (at .place + size (drop (at .place) xs)) xs)))
         table-first = ap (λ l. joined f l) (times-cons one size left (drop (at .place) xs) h) ∙ rw drop-drop refl
 
-        pub turns-room : (xl : ℕ) → Room c (timesSize size n (drop (c .place) xs)) (joined f (timesIn one size n (drop (c .place) xs))) xl (length t₀) (length e₀) (length b₀)
+        pub turns-room : (xl : ℕ)
+            → Room c (timesSize size n (drop (c .place) xs)) (joined f (timesIn one size n (drop (c .place) xs))) xl (length t₀) (length e₀) (length b₀)
             → Room at (size (drop (at .place) xs)) (f (one (drop (at .place) xs))) xl (length t) (length e) (length b)
         turns-room xl r =
             let q = left-room c _ _ t₀ e₀ b₀ at _ _ t e b g xl r in
@@ -153,7 +156,8 @@ module _ {A : Type 0} (one : List ℕ → A) (size : List ℕ → ℕ) (f : A �
           × Wrote c (joined f (fillIn one size (drop (c .place) xs))) t₀ e₀ b₀ t e b
       end-done h =
           let z : length (drop (at .place) xs) ≤ 0 = omega (arith, length-drop (at .place) xs) in
-          left-done c _ _ t₀ e₀ b₀ at _ _ t e b g (fill-size-none size (drop (at .place) xs) z) (ap (λ l. joined f l) (fill-none one size (drop (at .place) xs) z))
+          left-done c _ _ t₀ e₀ b₀ at _ _ t e b g (fill-size-none size (drop (at .place) xs) z)
+          (ap (λ l. joined f l) (fill-none one size (drop (at .place) xs) z))
 
       module _ (h : at .place < length xs) where
         end-size : fillSize size (drop (at .place) xs) ≡ size (drop (at .place) xs) + fillSize size (drop (at .place + size (drop (at .place) xs)) xs)

@@ -42,12 +42,14 @@ module _ (xs : List ℕ) (s : Shape) (count : ℕ) (c : Cursor) where
       → (c .place + count * pointOf s + textSize (s .text) (drop (c .place + count * pointOf s) xs) ≤ xl) × (c .numbers + 2 ≤ tl)
       × (c .elements + count * length (widthsOf s) ≤ el) × (c .bytes + length (textIn (s .text) (drop (c .place + count * pointOf s) xs)) ≤ bl)
   part-room xl tl el bl r =
-      let q : Room c (count * pointOf s + textSize (s .text) textAt) (table (count ∷ length (textIn (s .text) textAt) ∷ []) (numbers (repeat count (widthsOf s)) (drop (c .place) xs)) (textIn (s .text) textAt)) xl tl el bl =
+      let q : Room c (count * pointOf s + textSize (s .text) textAt)
+      (table (count ∷ length (textIn (s .text) textAt) ∷ []) (numbers (repeat count (widthsOf s)) (drop (c .place) xs)) (textIn (s .text) textAt)) xl tl el bl =
       rw (part-table, part-size) at r in
       omega (arith, q, part-elements)
 
   -- the same with the size p that the code has for a point
-  pub part-asks : (p xl tl el bl : ℕ) → p ≡ pointOf s → Room c (partSize s count (drop (c .place) xs)) (flattenPart (partIn s count (drop (c .place) xs))) xl tl el bl
+  pub part-asks : (p xl tl el bl : ℕ) → p ≡ pointOf s
+      → Room c (partSize s count (drop (c .place) xs)) (flattenPart (partIn s count (drop (c .place) xs))) xl tl el bl
       → (c .place + count * pointOf s ≤ xl) × (c .elements + count * length (widthsOf s) ≤ el) × (c .numbers + 2 ≤ tl)
       × (c .place + count * p + textSize (s .text) (drop (c .place + count * p) xs) ≤ xl)
       × (c .bytes + length (textIn (s .text) (drop (c .place + count * p) xs)) ≤ bl)
@@ -64,7 +66,8 @@ module _ (xs : List ℕ) (s : Shape) (count : ℕ) (c : Cursor) where
         → record { place = c .place + count * p + t; numbers = c .numbers + 2; elements = c .elements + n; bytes = c .bytes + l }
         ≡ moved c (partSize s count (drop (c .place) xs)) (flattenPart (partIn s count (drop (c .place) xs)))
     part-moved fits =
-        let ts : textSize (s .text) textAt ≡ t = text-takes textAt (s .text) l (omega (arith, fits, part-size, length-drop (c .place + count * pointOf s) xs)) text-length ∙ sym et in
+        let ts : textSize (s .text) textAt ≡ t =
+        text-takes textAt (s .text) l (omega (arith, fits, part-size, length-drop (c .place + count * pointOf s) xs)) text-length ∙ sym et in
         let ne : n ≡ length (numbers (repeat count (widthsOf s)) (drop (c .place) xs)) =
         en ∙ sym (part-elements ∙ ap (λ k. count * k) (widths-count (s .size) (s .float) (s .three))) in
         rw (part-table, part-size, ts, ← ne, ← text-length, ep) (simp add-assoc)
@@ -84,7 +87,8 @@ pub moved-past : (c : Cursor) (k m : ℕ) (t : Table) → moved (past c k) m t �
 moved-past c k m t = simp add-assoc
 
 module _ (xs : List ℕ) (s : Shape) (c : Cursor) where
-  pub subobject-some : (xl tl el bl : ℕ) → Room c (subobjectSize s (drop (c .place) xs)) (flattenPart (subobjectIn s (drop (c .place) xs))) xl tl el bl → c .place + 4 ≤ xl
+  pub subobject-some : (xl tl el bl : ℕ) → Room c (subobjectSize s (drop (c .place) xs)) (flattenPart (subobjectIn s (drop (c .place) xs))) xl tl el bl
+      → c .place + 4 ≤ xl
   unfolding subobjectSize
   subobject-some xl tl el bl r = omega (arith, r)
 
@@ -101,9 +105,11 @@ module _ (xs : List ℕ) (s : Shape) (c : Cursor) where
     size-is = rw (← count-is, drop-drop) refl
 
     pub subobject-ask : (xl tl el bl : ℕ) → Room c (subobjectSize s (drop (c .place) xs)) (flattenPart (subobjectIn s (drop (c .place) xs))) xl tl el bl
-        → Room (past c 4) (partSize s (n2 + 65536 * n1) (drop (past c 4 .place) xs)) (flattenPart (partIn s (n2 + 65536 * n1) (drop (past c 4 .place) xs))) xl tl el bl
+        → Room (past c 4) (partSize s (n2 + 65536 * n1) (drop (past c 4 .place) xs))
+        (flattenPart (partIn s (n2 + 65536 * n1) (drop (past c 4 .place) xs))) xl tl el bl
     subobject-ask xl tl el bl r =
-        let q : Room c (4 + partSize s (n2 + 65536 * n1) (drop (past c 4 .place) xs)) (flattenPart (partIn s (n2 + 65536 * n1) (drop (past c 4 .place) xs))) xl tl el bl = rw (part-is, size-is) at r in
+        let q : Room c (4 + partSize s (n2 + 65536 * n1) (drop (past c 4 .place) xs))
+        (flattenPart (partIn s (n2 + 65536 * n1) (drop (past c 4 .place) xs))) xl tl el bl = rw (part-is, size-is) at r in
         omega (arith, q)
 
     pub subobject-moved : (r : Cursor)

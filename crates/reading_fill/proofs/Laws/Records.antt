@@ -26,7 +26,8 @@ use Rattle.reading_fill.proofs.Laws.Items.{items-four}
 use Rattle.fields.proofs.Laws.Put.{sets-append, sets-swap}
 
 -- one table after another
-pub wrote-twice : (c : Cursor) (k : ℕ) (a b : Table) (t₀ e₀ b₀ t₁ e₁ b₁ t₂ e₂ b₂ : List ℕ) → Wrote c a t₀ e₀ b₀ t₁ e₁ b₁ → Wrote (moved c k a) b t₁ e₁ b₁ t₂ e₂ b₂
+pub wrote-twice : (c : Cursor) (k : ℕ) (a b : Table) (t₀ e₀ b₀ t₁ e₁ b₁ t₂ e₂ b₂ : List ℕ) → Wrote c a t₀ e₀ b₀ t₁ e₁ b₁
+    → Wrote (moved c k a) b t₁ e₁ b₁ t₂ e₂ b₂
     → Wrote c (join a b) t₀ e₀ b₀ t₂ e₂ b₂
 wrote-twice c k a b t₀ e₀ b₀ t₁ e₁ b₁ t₂ e₂ b₂ u w =
     record {
@@ -66,11 +67,14 @@ module _ (xs : List ℕ) (s : Shape) (count n : ℕ) (c : Cursor) where
     metric-first = room-first c k m first later xl tl el bl both
 
     pub metric-later : (d : Cursor) → d ≡ moved c k first
-        → Room d (timesSize (subobjectSize s) n (drop (d .place) xs)) (joined flattenPart (timesIn (subobjectIn s) (subobjectSize s) n (drop (d .place) xs))) xl tl el bl
+        → Room d (timesSize (subobjectSize s) n (drop (d .place) xs))
+        (joined flattenPart (timesIn (subobjectIn s) (subobjectSize s) n (drop (d .place) xs))) xl tl el bl
     metric-later d e = rw e (room-second c k m first later xl tl el bl both)
 
   module _ (d : Cursor) (e : d ≡ moved c k first) where
-    pub metric-moved : (r : Cursor) → r ≡ moved d (timesSize (subobjectSize s) n (drop (d .place) xs)) (joined flattenPart (timesIn (subobjectIn s) (subobjectSize s) n (drop (d .place) xs)))
+    pub metric-moved : (r : Cursor)
+        → r ≡ moved d (timesSize (subobjectSize s) n (drop (d .place) xs))
+        (joined flattenPart (timesIn (subobjectIn s) (subobjectSize s) n (drop (d .place) xs)))
         → r ≡ moved c (metricSize s count n (drop (c .place) xs)) (metricTable s count n (drop (c .place) xs))
     metric-moved r q =
         let p : r ≡ moved (moved c k first) m later = rw e at q in
@@ -130,11 +134,13 @@ module _ (xs : List ℕ) (c : Cursor) (metric b20 b21 b22 word n points count : 
       (metricTable (shapeIn h) (firstIn h) (h .subobjects) (metricIn h (drop (c .place) xs))) (h .metric) tl el bl
       → c .place + (32 + h .metric) ≤ length xs → Room (inside c) (metricSize s count n ys) (metricTable s count n ys) (length ys) tl el bl
   inside-ask tl el bl r fits =
-      let l : length ys ≡ h .metric = ap length ey ∙ length-take-le metric (drop (c .place + 32) xs) (omega (arith, length-drop (c .place + 32) xs, metric-field)) ∙ metric-field in
+      let l : length ys ≡ h .metric = ap length ey
+      ∙ length-take-le metric (drop (c .place + 32) xs) (omega (arith, length-drop (c .place + 32) xs, metric-field)) ∙ metric-field in
       rw (same-size, same-table, l) r
 
   pub inside-moved : (r : Cursor) → r ≡ moved (inside c) (metricSize s count n ys) (metricTable s count n ys)
-      → r ≡ moved (inside c) (metricSize (shapeIn h) (firstIn h) (h .subobjects) (metricIn h (drop (c .place) xs))) (metricTable (shapeIn h) (firstIn h) (h .subobjects) (metricIn h (drop (c .place) xs)))
+      → r ≡ moved (inside c) (metricSize (shapeIn h) (firstIn h) (h .subobjects) (metricIn h (drop (c .place) xs)))
+      (metricTable (shapeIn h) (firstIn h) (h .subobjects) (metricIn h (drop (c .place) xs)))
   inside-moved r e = e ∙ ap₂ (λ a b. moved (inside c) a b) same-size same-table
 
   pub inside-wrote : (t₀ e₀ b₀ t₁ e₁ b₁ : List ℕ) → Wrote (inside c) (metricTable s count n ys) t₀ e₀ b₀ t₁ e₁ b₁
@@ -154,7 +160,8 @@ module _ (xs : List ℕ) (c : Cursor) (total metric : ℕ) (et : total ≡ numbe
 
 -- the eight numbers
 pub row-is : (xs : List ℕ) (at code inGroup group reference b20 b21 b22 generalisation word subobjects n : ℕ) → code ≡ number 4 (drop (at + 12) xs)
-    → inGroup ≡ number 2 (drop (at + 16) xs) → group ≡ number 2 (drop (at + 18) xs) → reference ≡ referenceNumber (record { byte20 = b20; byte21 = b21; byte22 = b22 })
+    → inGroup ≡ number 2 (drop (at + 16) xs) → group ≡ number 2 (drop (at + 18) xs)
+    → reference ≡ referenceNumber (record { byte20 = b20; byte21 = b21; byte22 = b22 })
     → b20 ≡ number 1 (drop (at + 20) xs) → b21 ≡ number 1 (drop (at + 21) xs) → b22 ≡ number 1 (drop (at + 22) xs)
     → generalisation ≡ number 1 (drop (at + 23) xs) → word ≡ number 4 (drop (at + 24) xs) → subobjects ≡ number 2 (drop (at + 28) xs)
     → code ∷ inGroup ∷ group ∷ reference ∷ generalisation ∷ word ∷ (1 + subobjects) ∷ n ∷ [] ≡ rowOf (headerIn (drop at xs)) n
@@ -197,7 +204,8 @@ module _ (xs : List ℕ) (c : Cursor) (fits : RecordFits (drop (c .place) xs)) w
   abbrev pub past8 : Cursor
   past8 = record { place = c .place; numbers = c .numbers + 8; elements = c .elements; bytes = c .bytes }
 
-  record-table : flattenRecord (recordIn (drop (c .place) xs)) ≡ table (rowOf mine (length its) ++ (mt .numbers ++ it .numbers)) (mt .elements) (mt .bytes ++ it .bytes)
+  record-table : flattenRecord (recordIn (drop (c .place) xs)) ≡ table (rowOf mine (length its) ++ (mt .numbers ++ it .numbers)) (mt .elements)
+      (mt .bytes ++ it .bytes)
   unfolding flattenRecord flattenHeader recordOf metricTable rowOf
   record-table =
       let s = shapeIn mine in
@@ -214,12 +222,20 @@ module _ (xs : List ℕ) (c : Cursor) (fits : RecordFits (drop (c .place) xs)) w
   row-eight n = refl
 
   module _ (xl tl el bl : ℕ) (r : Room c (recordSize (drop (c .place) xs)) (flattenRecord (recordIn (drop (c .place) xs))) xl tl el bl) where
-    record-room : (c .place + mine .total ≤ xl) × (c .numbers + 8 + length (mt .numbers) + length (it .numbers) ≤ tl) × (c .elements + length (mt .elements) ≤ el)
+    record-room : (c .place + mine .total ≤ xl) × (c .numbers + 8 + length (mt .numbers) + length (it .numbers) ≤ tl)
+        × (c .elements + length (mt .elements) ≤ el)
         × (c .bytes + length (mt .bytes) + length (it .bytes) ≤ bl)
     record-room =
-        let q : Room c (mine .total) (table (rowOf mine (length its) ++ (mt .numbers ++ it .numbers)) (mt .elements) (mt .bytes ++ it .bytes)) xl tl el bl = rw record-table at r in (
+        let q : Room c (mine .total) (table (rowOf mine (length its) ++ (mt .numbers ++ it .numbers)) (mt .elements) (mt .bytes ++ it .bytes)) xl tl el bl =
+        rw record-table at r in (
           q .place,
-          omega (arith, q .numbers, length-append (rowOf mine (length its)) (mt .numbers ++ it .numbers), length-append (mt .numbers) (it .numbers), row-eight (length its)),
+          omega (
+            arith,
+            q .numbers,
+            length-append (rowOf mine (length its)) (mt .numbers ++ it .numbers),
+            length-append (mt .numbers) (it .numbers),
+            row-eight (length its),
+          ),
           q .elements,
           omega (arith, q .bytes, length-append (mt .bytes) (it .bytes)),
         )
@@ -231,20 +247,27 @@ module _ (xs : List ℕ) (c : Cursor) (fits : RecordFits (drop (c .place) xs)) w
         (metricTable (shapeIn mine) (firstIn mine) (mine .subobjects) (metricIn mine (drop (c .place) xs))) (mine .metric) tl el bl
         × (c .place + (32 + mine .metric) ≤ xl)
     record-metric =
-        let q = record-room in
-        (record { place = omega (arith, fits .parts); numbers = omega (arith, q); elements = omega (arith, q); bytes = omega (arith, q) }, omega (arith, q, fits .low))
+        let q = record-room in (
+          record { place = omega (arith, fits .parts); numbers = omega (arith, q); elements = omega (arith, q); bytes = omega (arith, q) },
+          omega (arith, q, fits .low),
+        )
 
     module _ (d : Cursor) (ed : d ≡ moved (inside past8) ms mt) where
       -- the room of the items, where the pool of elements is not lent
-      pub record-items : Room (inside (record { place = c .place; numbers = d .numbers; elements = d .elements; bytes = d .bytes })) (fillSize itemSize (semanticsIn mine (drop (c .place) xs)))
-          (joined flattenItem (fillIn itemIn itemSize (semanticsIn mine (drop (c .place) xs)))) (length (semanticsIn mine (drop (c .place) xs))) tl (d .elements) bl
+      pub record-items : Room (inside (record { place = c .place; numbers = d .numbers; elements = d .elements; bytes = d .bytes }))
+          (fillSize itemSize (semanticsIn mine (drop (c .place) xs)))
+          (joined flattenItem (fillIn itemIn itemSize (semanticsIn mine (drop (c .place) xs)))) (length (semanticsIn mine (drop (c .place) xs))) tl
+          (d .elements) bl
           × (32 + mine .metric ≤ mine .total) × (c .place + mine .total ≤ xl)
       record-items =
           let q = record-room in
           let n = ap (λ (z : Cursor). z .numbers) ed in
           let b = ap (λ (z : Cursor). z .bytes) ed in
-          let z = ap length (items-flat its) in
-          (record { place = omega (arith, fits .items); numbers = omega (arith, q, n); elements = omega (arith, z); bytes = omega (arith, q, b) }, fits .low, q .0)
+          let z = ap length (items-flat its) in (
+            record { place = omega (arith, fits .items); numbers = omega (arith, q, n); elements = omega (arith, z); bytes = omega (arith, q, b) },
+            fits .low,
+            q .0,
+          )
 
   module _ (d e : Cursor) (ed : d ≡ moved (inside past8) ms mt)
       (ee : e ≡ moved (inside (record { place = c .place; numbers = d .numbers; elements = d .elements; bytes = d .bytes })) is it) where
@@ -252,7 +275,8 @@ module _ (xs : List ℕ) (c : Cursor) (fits : RecordFits (drop (c .place) xs)) w
     counted = let n = ap (λ (z : Cursor). z .numbers) ee in let f = items-four its in (omega (arith, n), omega (arith, n, f))
 
     pub record-moved : (total : ℕ) → total ≡ number 4 (drop (c .place + 4) xs)
-        → record { place = c .place + total; numbers = e .numbers; elements = e .elements; bytes = e .bytes } ≡ moved c (recordSize (drop (c .place) xs)) (flattenRecord (recordIn (drop (c .place) xs)))
+        → record { place = c .place + total; numbers = e .numbers; elements = e .elements; bytes = e .bytes } ≡ moved c (recordSize (drop (c .place) xs))
+        (flattenRecord (recordIn (drop (c .place) xs)))
     record-moved total et =
         let T = table (rowOf mine (length its) ++ (mt .numbers ++ it .numbers)) (mt .elements) (mt .bytes ++ it .bytes) in
         let p : c .place + total ≡ c .place + mine .total = ap (λ k. c .place + k) (field-at 4 4 (c .place) xs total et) in
@@ -265,8 +289,10 @@ module _ (xs : List ℕ) (c : Cursor) (fits : RecordFits (drop (c .place) xs)) w
           length-append (mt .numbers) (it .numbers),
           row-eight (length its),
         ) in
-        let l : e .elements ≡ c .elements + length (T .elements) = omega (arith, ap (λ (z : Cursor). z .elements) ed, ap (λ (z : Cursor). z .elements) ee, ap length (items-flat its)) in
-        let b : e .bytes ≡ c .bytes + length (T .bytes) = omega (arith, ap (λ (z : Cursor). z .bytes) ed, ap (λ (z : Cursor). z .bytes) ee, length-append (mt .bytes) (it .bytes)) in
+        let l : e .elements ≡ c .elements + length (T .elements) =
+        omega (arith, ap (λ (z : Cursor). z .elements) ed, ap (λ (z : Cursor). z .elements) ee, ap length (items-flat its)) in
+        let b : e .bytes ≡ c .bytes + length (T .bytes) =
+        omega (arith, ap (λ (z : Cursor). z .bytes) ed, ap (λ (z : Cursor). z .bytes) ee, length-append (mt .bytes) (it .bytes)) in
         rw record-table (λ j. record { place = p j; numbers = n j; elements = l j; bytes = b j })
 
     pub record-wrote : (t₀ e₀ b₀ t₁ e₁ b₁ t₂ b₂ t₃ : List ℕ) → Wrote (inside past8) mt t₀ e₀ b₀ t₁ e₁ b₁
@@ -281,7 +307,9 @@ module _ (xs : List ℕ) (c : Cursor) (fits : RecordFits (drop (c .place) xs)) w
         let tn : t₂ ≡ sets t₀ (c .numbers + 8) rest = w .numbers ∙ rw (u .numbers, dn) (sym (sets-append t₀ (c .numbers + 8) (mt .numbers) (it .numbers))) in
         let eight : c .numbers + length row ≡ c .numbers + 8 = ap (λ k. c .numbers + k) (row-eight (length its)) in
         let all : t₃ ≡ sets t₀ (c .numbers) (row ++ rest) =
-        h ∙ rw (counted .1, tn) (sets-swap t₀ (c .numbers) (c .numbers + 8) row rest (omega (arith, eight)) ∙ ap (λ k. sets (sets t₀ (c .numbers) row) k rest) (sym eight) ∙ sym (sets-append t₀ (c .numbers) row rest)) in
+        h ∙ rw (counted .1, tn)
+        (sets-swap t₀ (c .numbers) (c .numbers + 8) row rest (omega (arith, eight)) ∙ ap (λ k. sets (sets t₀ (c .numbers) row) k rest) (sym eight)
+        ∙ sym (sets-append t₀ (c .numbers) row rest)) in
         rw record-table (record {
           numbers = all;
           elements = u .elements;
@@ -289,10 +317,13 @@ module _ (xs : List ℕ) (c : Cursor) (fits : RecordFits (drop (c .place) xs)) w
         })
 
   -- the same, with the slices as the code has them after each call
-  module _ (xl : ℕ) (t₀ e₀ b₀ : List ℕ) (r : Room c (recordSize (drop (c .place) xs)) (flattenRecord (recordIn (drop (c .place) xs))) xl (length t₀) (length e₀) (length b₀)) where
+  module _ (xl : ℕ) (t₀ e₀ b₀ : List ℕ)
+      (r : Room c (recordSize (drop (c .place) xs)) (flattenRecord (recordIn (drop (c .place) xs))) xl (length t₀) (length e₀) (length b₀)) where
     pub items-kept : (d : Cursor) → d ≡ moved (inside past8) ms mt → (t₁ e₁ b₁ : List ℕ) → Wrote (inside past8) mt t₀ e₀ b₀ t₁ e₁ b₁
-        → Room (inside (record { place = c .place; numbers = d .numbers; elements = d .elements; bytes = d .bytes })) (fillSize itemSize (semanticsIn mine (drop (c .place) xs)))
-        (joined flattenItem (fillIn itemIn itemSize (semanticsIn mine (drop (c .place) xs)))) (length (semanticsIn mine (drop (c .place) xs))) (length t₁) (d .elements) (length b₁)
+        → Room (inside (record { place = c .place; numbers = d .numbers; elements = d .elements; bytes = d .bytes }))
+        (fillSize itemSize (semanticsIn mine (drop (c .place) xs)))
+        (joined flattenItem (fillIn itemIn itemSize (semanticsIn mine (drop (c .place) xs)))) (length (semanticsIn mine (drop (c .place) xs))) (length t₁)
+        (d .elements) (length b₁)
         × (32 + mine .metric ≤ mine .total) × (c .place + mine .total ≤ xl)
     items-kept d ed t₁ e₁ b₁ w =
         let lt : length t₁ ≡ length t₀ = ap length (w .numbers) ∙ length-sets t₀ (c .numbers + 8) (mt .numbers) in

@@ -38,9 +38,12 @@ module _ (al : ℕ → Bool) where
   unfolding metricWalk metricSize
   metric-value h p ys v e =
       let s = shapeIn h in
-      let later = times-valued al (subobjectWalk (h .reference) (isMark (h .points))) (subobjectIn s) (subobjectSize s) (subobject-valued al (h .reference) (isMark (h .points))) (h .subobjects) in
-      let both = pair-valued al (partWalk (h .reference) (firstIn h)) (partIn s (firstIn h)) (partSize s (firstIn h)) (part-valued al (h .reference) (firstIn h))
-      (times (h .subobjects) (subobjectWalk (h .reference) (isMark (h .points)))) (timesIn (subobjectIn s) (subobjectSize s) (h .subobjects)) (timesSize (subobjectSize s) (h .subobjects)) later in
+      let later = times-valued al (subobjectWalk (h .reference) (isMark (h .points))) (subobjectIn s) (subobjectSize s)
+      (subobject-valued al (h .reference) (isMark (h .points))) (h .subobjects) in
+      let both = pair-valued al (partWalk (h .reference) (firstIn h)) (partIn s (firstIn h)) (partSize s (firstIn h))
+      (part-valued al (h .reference) (firstIn h))
+      (times (h .subobjects) (subobjectWalk (h .reference) (isMark (h .points)))) (timesIn (subobjectIn s) (subobjectSize s) (h .subobjects))
+      (timesSize (subobjectSize s) (h .subobjects)) later in
       let w = whole-value al _ _ _ both LENGTH p ys v e in
       (ap (λ z. z .first) (w .0), ap (λ z. z .second) (w .0), w .1)
 
@@ -93,12 +96,20 @@ module _ (al : ℕ → Bool) where
       checks-case al 0 (carriedChecks (bytesIn Descriptor.carried s)) _ t e3 λ c4 y4 e4.
       checks-case al 0 (reservedChecks s) _ t e4 λ c5 y5 e5.
       bind-case al (whole LEFT-OVER (times n recordWalk) start (drop start s)) _ t e5 λ l h g.
-      let a = whole-value al (times n recordWalk) (timesIn recordIn recordSize n) (timesSize recordSize n) (times-valued al recordWalk recordIn recordSize record-valued n) LEFT-OVER start (drop start s) l h in
+      let a = whole-value al (times n recordWalk) (timesIn recordIn recordSize n) (timesSize recordSize n)
+      (times-valued al recordWalk recordIn recordSize record-valued n) LEFT-OVER start (drop start s) l h in
       let each : Each RecordFits recordSize n (drop start s) =
-      whole-inner al (times n recordWalk) (timesIn recordIn recordSize n) (timesSize recordSize n) (times-valued al recordWalk recordIn recordSize record-valued n) LEFT-OVER start (drop start s) l h
+      whole-inner al (times n recordWalk) (timesIn recordIn recordSize n) (timesSize recordSize n)
+      (times-valued al recordWalk recordIn recordSize record-valued n) LEFT-OVER start (drop start s) l h
       λ v i. times-each al recordWalk recordIn recordSize record-valued RecordFits (λ p xs u q. record-value p xs u q .1) n start (drop start s) v i in
       let long : start ≤ length s = leb-true _ _ (c0 .1 .0) in
-      record { records = ap (λ (z : Sheet). z .records) (sym (given-inj g)) ∙ a .0; long = long; size = omega (arith, a .1, long, length-drop start s); each = each }
+      record {
+        records = ap (λ (z : Sheet). z .records) (sym (given-inj g))
+            ∙ a .0;
+        long = long;
+        size = omega (arith, a .1, long, length-drop start s);
+        each = each;
+      }
 
 -- where the 2017 walk of a sheet ends in t, t's records are those read without tests
 pub sheet-records : (s : List ℕ) (t : Sheet) → outcome (sheetWalk s) ≡ ends t → t .records ≡ sheetRecords s

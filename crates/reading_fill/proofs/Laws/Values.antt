@@ -35,8 +35,10 @@ module _ {A : Type 0} (al : ℕ → Bool) (r : Reader A) (one : List ℕ → A) 
       let b = times-value n (p + t .size) (drop (t .size) xs) u j in
       let s : t .size ≡ size xs = ap (λ z. z .size) (a .0) in
       let c : u ≡ piece (timesIn one size n (drop (size xs) xs)) (timesSize size n (drop (size xs) xs)) = rw s at (b .0) in
-      let f : timesSize size n (drop (size xs) xs) ≤ length (drop (size xs) xs) = rw s at (b .1) in
-      (sym (given-inj g) ∙ ap₂ (λ (x : Piece A) (y : Piece (List A)). piece (x .value ∷ y .value) (x .size + y .size)) (a .0) c, omega (arith, f, a .1, length-drop (size xs) xs))
+      let f : timesSize size n (drop (size xs) xs) ≤ length (drop (size xs) xs) = rw s at (b .1) in (
+        sym (given-inj g) ∙ ap₂ (λ (x : Piece A) (y : Piece (List A)). piece (x .value ∷ y .value) (x .size + y .size)) (a .0) c,
+        omega (arith, f, a .1, length-drop (size xs) xs),
+      )
 
   pub times-valued : (n : ℕ) → Valued al (times n r) (timesIn one size n) (timesSize size n)
   times-valued n = record { value = times-value n }
@@ -52,7 +54,8 @@ module _ {A : Type 0} (al : ℕ → Bool) (r : Reader A) (one : List ℕ → A) 
       let s : t .size ≡ size xs = ap (λ z. z .size) (R .value p xs t h .0) in
       (keeps p xs t h, subst (λ k. Each ok size n (drop k xs)) s (times-each ok keeps n (p + t .size) (drop (t .size) xs) u j))
 
-  filling-value : (f p : ℕ) (xs : List ℕ) (l : List A) → answer al (filling r f p xs) ≡ given l → (l ≡ fillingIn one size f xs) × (fillingSize size f xs ≤ length xs)
+  filling-value : (f p : ℕ) (xs : List ℕ) (l : List A) → answer al (filling r f p xs) ≡ given l
+      → (l ≡ fillingIn one size f xs) × (fillingSize size f xs ≤ length xs)
   unfolding fillingIn fillingSize
   filling-value zero p xs l e = (sym (given-inj e), omega arith)
   filling-value (suc f) p [] l e = (sym (given-inj e), omega arith)
@@ -102,7 +105,8 @@ part-valued al r count = record {
       (sym (given-inj g) ∙ rw (a .0) refl, omega (arith, f, a .1, length-drop size xs));
 }
 
-pub subobject-valued : (al : ℕ → Bool) (r : Reference) (marked : Bool) → Valued al (subobjectWalk r marked) (subobjectIn (shapeOf r)) (subobjectSize (shapeOf r))
+pub subobject-valued : (al : ℕ → Bool) (r : Reference) (marked : Bool)
+    → Valued al (subobjectWalk r marked) (subobjectIn (shapeOf r)) (subobjectSize (shapeOf r))
 unfolding subobjectWalk subobjectIn subobjectSize
 subobject-valued al r marked = record {
   value = λ p xs v e.

@@ -37,6 +37,7 @@ use Rattle.meanings.specs.declared.setting.Made.{Made}
 use Rattle.meanings.specs.declared.setting.Setting.{Setting}
 use Rattle.writing.specs.Ready.{totalsOf, measuredOf, Ready, writtenAt}
 use Rattle.layout.specs.Answers.Lent.{theSheet}
+use Rattle.layout.specs.Refusals.{ASK, ROOM}
 
 -- r answers a, and out is what the slice o then holds
 abbrev pub Right : Answer (List ℕ) → (o out : List ℕ) → Written → Type 0
@@ -86,7 +87,7 @@ module _ (y : ℕ) (h : Head) (t : Table) (o : List ℕ) (v : Rows) (means : v �
       room = omega (arith, long, room);
     }
 
-    pub short-right : length o < 452 + z .length → Right (writtenAt y h t (length o)) o o (Write.Refused (refusal 15 0 0))
+    pub short-right : length o < 452 + z .length → Right (writtenAt y h t (length o)) o o (Write.Refused (refusal ROOM 0 0))
     unfolding writtenOf
     short-right less = rw (found .1, lt-leb (length (encode u)) (length o) (omega (arith, long, less))) (refl, refl)
 
@@ -109,11 +110,11 @@ module _ (y x : ℕ) (h : Head) (t : Table) (o : List ℕ) (m : Made) (same : x 
       let nine : isSetting y ≡ true = rw (n .0) at (n .1) in
       rw nine (subst (λ w. Right (writtenAt w h t (length o)) o out r) year right)
 
-  by-test : (test : Bool) (q : Refusal) → isSetting y ≡ test → Refused q ≡ madeOf (cond test (given y) (refused 16 0 0))
+  by-test : (test : Bool) (q : Refusal) → isSetting y ≡ test → Refused q ≡ madeOf (cond test (given y) (refused ASK 0 0))
       → Right (written y h t (length o)) o o (Write.Refused q)
   unfolding written writtenOf madeOf
   by-test true q e f = absurd (let w : _≡_ {A = ℕ} 0 1 = cc in omega arith)
-  by-test false q e f = let q-is : q ≡ refusal 16 0 0 = cc in rw (q-is, e) (refl, refl)
+  by-test false q e f = let q-is : q ≡ refusal ASK 0 0 = cc in rw (q-is, e) (refl, refl)
 
   pub at-unknown : (q : Refusal) → m ≡ Refused q → Right (written y h t (length o)) o o (Write.Refused q)
   at-unknown q a = by-test (isSetting y) q refl (sym a ∙ made ∙ ap (λ w. madeOf (settingOf w)) same)

@@ -2,7 +2,7 @@
 use mathlib.Core.Bool.{Bool, true, false, cond}
 use mathlib.Core.List.{List, [], _∷_, _++_}
 use mathlib.Core.Path.{_≡_, refl, sym, ap, _∙_, subst}
-use Prim.Native.Nat.{ℕ, _+_, _≤_, _<_, _^_}
+use Prim.Native.Nat.{ℕ, _+_, _-_, _≤_, _<_, _^_}
 use borrow.Author.Tests.{le-leb, lt-leb, leb-false}
 use lib.Dec.{leb}
 use lib.ListN.{length}
@@ -17,6 +17,7 @@ use Rattle.layout.specs.Answers.Enums.{refusal}
 use Rattle.layout.specs.Bytes.{Bytes}
 use Rattle.layout.specs.Fields.Descriptor
 use Rattle.layout.specs.Fields.{limit}
+use Rattle.layout.specs.Reading.Sheets.{start}
 use Rattle.layout.specs.Layout.Encode.{encode}
 use Rattle.layout.specs.Layout.Fine.{FineHead}
 use Rattle.layout.specs.Layout.Sizes.{sumBy, recordBytes}
@@ -27,6 +28,7 @@ use Rattle.layout.specs.Walk.{Walk, Answer, given, refused, answer, upTo, Check
 use Rattle.layout.specs.Writing.Rows.{rowsWalk}
 use Rattle.layout.specs.Writing.Sheets.{titleRules, headWalk, limitRules, tableWalk}
 use Rattle.layout.specs.declared.Refusal.{Refusal}
+use Rattle.layout.specs.Refusals.{TOO-LONG}
 use Rattle.laws.proofs.Base.Chains.{four-then}
 use Rattle.laws.proofs.Base.Walks.{bind-on, bind-refused, checks-append}
 use Rattle.laws.proofs.Writing.Rows.{rows-back}
@@ -121,17 +123,17 @@ module _ (y : ℕ) (h : Head) (t : Table) (r : Step) (n : Next Stp.Fine y 0 (hea
           let head = head-fine h typed (step-holds y 0 (headRules h) r n fine) in
           (g .0, on ∙ bind-on (upTo y) (rowsWalk t) (limited h) (g .0) (g .1), g .2, encode-length (sheetOf h (g .0)) head near)
 
-      pub too-long : 16776764 < z .length → Are.Refused (refusal 1 0 0) ≡ measuredOf all
+      pub too-long : limit - start < z .length → Are.Refused (refusal TOO-LONG 0 0) ≡ measuredOf all
       unfolding limitRules
       too-long over =
           let l = found .0 in
           let u = sheetOf h l in
           let z-is : z .length ≡ capped (sumBy recordBytes l) = ap (λ (x : Totals). x .length) (found .2) in
           let long : limit < length (encode u) = omega (arith, over, z-is, capped-low (sumBy recordBytes l), found .3) in
-          let stop : answer (upTo y) (limited h l) ≡ refused 1 0 0 = rw (lt-leb (length (encode u)) limit long) refl in
+          let stop : answer (upTo y) (limited h l) ≡ refused TOO-LONG 0 0 = rw (lt-leb (length (encode u)) limit long) refl in
           sym (ap measuredOf (found .1 ∙ stop))
 
-      pub fits : z .length ≤ 16776764 → Are.Fine z ≡ measuredOf all
+      pub fits : z .length ≤ limit - start → Are.Fine z ≡ measuredOf all
       unfolding limitRules
       fits under =
           let l = found .0 in

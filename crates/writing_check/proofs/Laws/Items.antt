@@ -61,7 +61,8 @@ sizesBy a k left =
 pub sizes-are : (a : ItemNumbers) (k : Value) (left : ℕ) → k ≡ valueOf (kindOf (a .t)) (a .scale) (a .size) → sizesBy a k left ≡ sizeRules a left
 sizes-are a k left e =
     ap (λ v. sizesBy a v left) e
-    ∙ ap (λ b. must (ltb (a .size) 4294967296) 14 3 ∷ must (eqb (a .size) (valueLength (kindOf (a .t)) (a .scale) (a .size))) 14 3 ∷ must b 12 3 ∷ must (leb (a .size) left) 14 3 ∷ [])
+    ∙ ap (λ b. must (ltb (a .size) 4294967296) 14 3 ∷ must (eqb (a .size) (valueLength (kindOf (a .t)) (a .scale) (a .size))) 14 3 ∷ must b 12 3 ∷ must
+    (leb (a .size) left) 14 3 ∷ [])
     (sym (good-is (kindOf (a .t)) (a .size)))
 
 pub record Sized (a : ItemNumbers) (left : ℕ) : Type 0 where

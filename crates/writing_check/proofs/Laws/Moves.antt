@@ -51,7 +51,7 @@ capped-back n h = go (leb n limit) h
     go true h = refl
     go false h = absurd (omega arith)
 
-pub capped-past : (n : ℕ) → limit < n → 16777217 ≡ capped n
+pub capped-past : (n : ℕ) → limit < n → limit + 1 ≡ capped n
 capped-past n h = rw (lt-leb n limit h)
 
 pub capped-add : (a b : ℕ) → capped (capped a + b) ≡ capped (a + b)
@@ -162,7 +162,8 @@ module _ {A : Type 0} (al : ℕ → Bool) (k : ℕ) (r : Taker A) (F : A → Tab
   cons : (p q : Places) (a : A) → moved p (F a) (B a) ≡ q → (v : Answer (Taken (List A)))
       → movedOf (joined F) (sumBy B) p (andThen v (λ more. given (taken (a ∷ more .value) (more .left)))) ≡ movedOf (joined F) (sumBy B) q v
   cons p q a e (given more) =
-      ap Fine (sym (moved-moved p (F a) (joined F (more .value)) (B a) (sumBy B (more .value))) ∙ ap (λ u. moved u (joined F (more .value)) (sumBy B (more .value))) e)
+      ap Fine (sym (moved-moved p (F a) (joined F (more .value)) (B a) (sumBy B (more .value)))
+      ∙ ap (λ u. moved u (joined F (more .value)) (sumBy B (more .value))) e)
   cons p q a e (refused n i y) = refl
 
   rest-turn : (P : A → Type 0) (n : ℕ) (p q : Places) → ((a : A) → length (F a .numbers) ≡ k) → Went (answer al (r (p .number) (here t p))) F B P t p q

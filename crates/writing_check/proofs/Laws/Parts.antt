@@ -145,7 +145,8 @@ head-none p r (refused n i y) = refl
 
 pub first-on : (y : ℕ) (ns es pool : List ℕ) (p : Places) (ref : Reference) (rules : ℕ → List Check) (r : Step)
     → Next Stp.Fine y (p .number) (rules (getD ns (p .number) 0)) r → r ≡ Stp.Fine → (m : Moved)
-    → m ≡ movedOf flattenPart (headed 0 ref) p (answer (upTo y) (poolWalk ref (getD ns (p .number) 0) (getD ns (p .number + 1) 0) (p .number) (here (table ns es pool) p)))
+    → m ≡ movedOf flattenPart (headed 0 ref) p
+    (answer (upTo y) (poolWalk ref (getD ns (p .number) 0) (getD ns (p .number + 1) 0) (p .number) (here (table ns es pool) p)))
     → m ≡ movedOf flattenPart (partBytes ref) p (answer (upTo y) (takePart ref rules (p .number) (here (table ns es pool) p)))
 first-on y ns es pool p ref rules r n e m i =
     let w = poolWalk ref (getD ns (p .number) 0) (getD ns (p .number + 1) 0) (p .number) (here (table ns es pool) p) in

@@ -28,6 +28,7 @@ use Rattle.layout.specs.Writing.Parts.{firstRules, laterRules, takePart}
 use Rattle.layout.specs.Writing.Rows.{RecordRow, rowIn, roomRules, nameRules, countRules, rowRules, takeInside, rowWalk}
 use Rattle.layout.specs.Writing.Tables.{table, join, joined, Taken, taken, many, flattenHeader, flattenPart, flattenItem, flattenRecord}
 use Rattle.layout.specs.declared.Refusal.{Refusal}
+use Rattle.layout.specs.Refusals.{TABLE}
 use Rattle.laws.proofs.Base.Chains.{four-then}
 use Rattle.laws.proofs.Base.Lists.{both-true}
 use Rattle.laws.proofs.Base.Walks.{answer-bind, bind-on, bind-refused, checks-append}
@@ -165,7 +166,8 @@ module _ (y : ℕ) (ns es pool : List ℕ) (a : RecordRow) (p : Places) where
         (e : m ≡ movedOf (joined flattenPart) (sumBy (subobjectBytes ref)) q (later marked q)) where
       takes : Takes (upTo y) ((a .parts - 1) * 2) (many (a .parts - 1) 2 (takePart ref (laterRules marked))) (joined flattenPart)
           (λ l. (length l ≡ a .parts - 1) × All (FineSubobject ref marked) l) (flat (λ b. []))
-      takes = many-takes (upTo y) 2 (takePart ref (laterRules marked)) flattenPart (FineSubobject ref marked) (λ b. []) (subobject-takes (upTo y) ref marked) part-numbers (a .parts - 1)
+      takes = many-takes (upTo y) 2 (takePart ref (laterRules marked)) flattenPart (FineSubobject ref marked) (λ b. [])
+          (subobject-takes (upTo y) ref marked) part-numbers (a .parts - 1)
 
       pub laters-went : (s : Places) → m ≡ Fine s → Later marked q s
       laters-went s i =
@@ -211,7 +213,8 @@ module _ (y : ℕ) (ns es pool : List ℕ) (a : RecordRow) (p : Places) where
       items-last some m e =
           e
           ∙ last (answer (upTo y) (items (s .number) (here t s)))
-          ∙ ap (λ i. movedOf insideTable insideBytes p (andThen (answer (upTo y) (items i (here t s))) (λ i. given (made (w .value) (v .value) i)))) (laters-next some)
+          ∙ ap (λ i. movedOf insideTable insideBytes p (andThen (answer (upTo y) (items i (here t s))) (λ i. given (made (w .value) (v .value) i))))
+          (laters-next some)
           ∙ sym (ap (movedOf insideTable insideBytes p)
           (after-first
           ∙ bind-on (upTo y) laters andItems (taken (v .value) (here t s)) (v .is)
@@ -240,7 +243,7 @@ module _ (y : ℕ) (ns es pool : List ℕ) (p : Places) where
   abbrev one : Answer (Taken Record)
   one = answer (upTo y) (rowWalk (p .number) (here all p))
 
-  pub row-short : length ns - p .number < 8 → Refused (refusal 14 (p .number) 0) ≡ movedOf flattenRecord recordBytes p one
+  pub row-short : length ns - p .number < 8 → Refused (refusal TABLE (p .number) 0) ≡ movedOf flattenRecord recordBytes p one
   unfolding rowWalk rowRules roomRules
   row-short h =
       rw (lt-leb 8 (length (drop (p .number) ns)) (omega (arith, h, length-drop (p .number) ns)), add-zero (p .number)) refl

@@ -19,6 +19,7 @@ use Rattle.layout.specs.Walk.{Answer, given, refused, answer, upTo, checks, _>>
 use Rattle.layout.specs.Writing.Rows.{rowWalk, endRules, rowsWalk}
 use Rattle.layout.specs.Writing.Tables.{table, flattenRecord}
 use Rattle.layout.specs.declared.Refusal.{Refusal}
+use Rattle.layout.specs.Refusals.{TABLE}
 use Rattle.laws.proofs.Writing.Records.{NearRecord, record-numbers, record-takes}
 use Rattle.laws.proofs.Writing.Rows.{record-grows, nextRow}
 use Rattle.laws.proofs.Writing.Turns.{turn, rowsAnswer, rows-start, rows-turn, rows-done}
@@ -80,7 +81,8 @@ module _ (y : ℕ) (ns es pool : List ℕ) where
       pub going-stop : (q : Refusal) → m ≡ Mov.Refused q → Refused q ≡ rowsOf (answer (upTo y) (rowsWalk t))
       going-stop q i =
           let s = stopped (upTo y) 0 rowWalk flattenRecord NearRecord recordYears (record-takes (upTo y)) recordBytes t p h (omega arith) m e q i in
-          sym (one-turn ∙ ap (λ v. restOf count (p .length) (andThen v (λ row. andThen (rowsAnswer (upTo y) (nextRow (p .number) (row .value)) (row .left)) (λ more. given (row .value ∷ more))))) s)
+          sym (one-turn ∙ ap (λ v. restOf count (p .length)
+          (andThen v (λ row. andThen (rowsAnswer (upTo y) (nextRow (p .number) (row .value)) (row .left)) (λ more. given (row .value ∷ more))))) s)
 
       pub row-next : (q : Places) → m ≡ Mov.Fine q → p .number + 8 ≤ q .number
       row-next q i =
@@ -95,7 +97,8 @@ module _ (y : ℕ) (ns es pool : List ℕ) where
           let l : capped (p .length + recordBytes r) ≡ q .length = ap (λ (u : Places). u .length) (w .to) in
           record {
             eq = one-turn
-                ∙ ap (λ v. restOf count (p .length) (andThen v (λ row. andThen (rowsAnswer (upTo y) (nextRow (p .number) (row .value)) (row .left)) (λ more. given (row .value ∷ more))))) (w .is)
+                ∙ ap (λ v. restOf count (p .length)
+                (andThen v (λ row. andThen (rowsAnswer (upTo y) (nextRow (p .number) (row .value)) (row .left)) (λ more. given (row .value ∷ more))))) (w .is)
                 ∙ rest-cons count (p .length) r (rowsAnswer (upTo y) (nextRow (p .number) r) (here t q))
                 ∙ ap (λ k. restOf (count + 1) k (rowsAnswer (upTo y) (nextRow (p .number) r) (here t q))) l
                 ∙ ap (λ k. restOf (count + 1) (q .length) (rowsAnswer (upTo y) k (here t q))) n;
@@ -106,7 +109,8 @@ module _ (y : ℕ) (ns es pool : List ℕ) where
           ≡ restOf count (p .length) (answer (upTo y) (checks (p .number) (endRules (drop (p .element) es) (drop (p .byte) pool)) >> ends []))
       at-end =
           g .eq
-          ∙ ap (λ l. restOf count (p .length) (rowsAnswer (upTo y) (p .number) (table l (drop (p .element) es) (drop (p .byte) pool)))) (drop-of-length-le ns none)
+          ∙ ap (λ l. restOf count (p .length) (rowsAnswer (upTo y) (p .number) (table l (drop (p .element) es) (drop (p .byte) pool))))
+          (drop-of-length-le ns none)
           ∙ ap (restOf count (p .length)) (rows-done (upTo y) (p .number) (drop (p .element) es) (drop (p .byte) pool))
 
       tests : (not (some (drop (p .element) es)) && not (some (drop (p .byte) pool))) ≡ (leb (length es) (p .element) && leb (length pool) (p .byte))
@@ -118,6 +122,6 @@ module _ (y : ℕ) (ns es pool : List ℕ) where
       going-done e = sym (at-end ∙ rw (tests, e) (rw (add-zero (p .length), add-zero count, capped-is (p .length) (h .length)) refl))
 
       pub going-left : (leb (length es) (p .element) && leb (length pool) (p .byte)) ≡ false
-          → Refused (refusal 14 (p .number) 0) ≡ rowsOf (answer (upTo y) (rowsWalk t))
+          → Refused (refusal TABLE (p .number) 0) ≡ rowsOf (answer (upTo y) (rowsWalk t))
       unfolding endRules
       going-left e = sym (at-end ∙ rw (tests, e) (rw (add-zero (p .number)) refl))

@@ -26,7 +26,8 @@ points-mark count h = rw (le-leb 65535 count h) refl
 pub points-plain : (count : ℕ) → count < 65535 → count ≡ pointsOf count
 points-plain count h = rw (lt-leb 65535 count h) refl
 
-pub lengths-wrote : (o₀ o₁ o₂ o₃ : List ℕ) (w metric semantics : ℕ) → o₁ ≡ sets o₀ w (bytes 4 0x7FFF7FFF) → o₂ ≡ sets o₁ (w + 4) (bytes 4 (32 + metric + semantics))
+pub lengths-wrote : (o₀ o₁ o₂ o₃ : List ℕ) (w metric semantics : ℕ) → o₁ ≡ sets o₀ w (bytes 4 0x7FFF7FFF)
+    → o₂ ≡ sets o₁ (w + 4) (bytes 4 (32 + metric + semantics))
     → o₃ ≡ sets o₂ (w + 8) (bytes 4 metric) → o₃ ≡ sets o₀ w (lengthsOf metric semantics)
 unfolding lengthsOf
 lengths-wrote o₀ o₁ o₂ o₃ w metric semantics e f g =
@@ -56,7 +57,8 @@ module _ (ns : List ℕ) (at : ℕ) where
       sets-twice o₀ o₂ o₃ w (x ++ y) z (sets-twice o₀ o₁ o₂ w x y e f) g ∙ rw (nth-first ns at, nth-at ns at 1, nth-at ns at 2) refl
 
   pub marks-wrote : (o₀ o₁ o₂ o₃ o₄ o₅ : List ℕ) (w : ℕ) (r : Reference) → r ≡ Row.referenceOf (getD ns (at + 3) 0)
-      → o₁ ≡ sets o₀ w (bytes 1 (r .byte20)) → o₂ ≡ sets o₁ (w + 1) (bytes 1 (r .byte21)) → o₃ ≡ sets o₂ (w + 2) (bytes 1 (r .byte22)) → o₄ ≡ sets o₃ (w + 3) (bytes 1 (getD ns (at + 4) 0))
+      → o₁ ≡ sets o₀ w (bytes 1 (r .byte20)) → o₂ ≡ sets o₁ (w + 1) (bytes 1 (r .byte21)) → o₃ ≡ sets o₂ (w + 2) (bytes 1 (r .byte22))
+      → o₄ ≡ sets o₃ (w + 3) (bytes 1 (getD ns (at + 4) 0))
       → o₅ ≡ sets o₄ (w + 4) (bytes 4 (getD ns (at + 5) 0)) → o₅ ≡ sets o₀ w (marksOf (drop at ns))
   unfolding marksOf
   marks-wrote o₀ o₁ o₂ o₃ o₄ o₅ w r i e f g h k =
@@ -75,7 +77,8 @@ module _ (ns : List ℕ) (at : ℕ) where
   counts-wrote o₀ o₁ o₂ w points p e f =
       sets-twice o₀ o₁ o₂ w (bytes 2 (getD ns (at + 6) 0 - 1)) (bytes 2 points) e f ∙ rw (p, nth-at ns at 6, nth-at ns at 8) refl
 
-  pub header-wrote : (o₀ o₁ o₂ o₃ o₄ : List ℕ) (w metric semantics : ℕ) → o₁ ≡ sets o₀ w (lengthsOf metric semantics) → o₂ ≡ sets o₁ (w + 12) (namesOf (drop at ns))
+  pub header-wrote : (o₀ o₁ o₂ o₃ o₄ : List ℕ) (w metric semantics : ℕ) → o₁ ≡ sets o₀ w (lengthsOf metric semantics)
+      → o₂ ≡ sets o₁ (w + 12) (namesOf (drop at ns))
       → o₃ ≡ sets o₂ (w + 20) (marksOf (drop at ns)) → o₄ ≡ sets o₃ (w + 28) (countsOf (drop at ns)) → o₄ ≡ sets o₀ w (headerOf (drop at ns) metric semantics)
   unfolding headerOf lengthsOf namesOf marksOf countsOf
   header-wrote o₀ o₁ o₂ o₃ o₄ w metric semantics e f g h =

@@ -89,7 +89,13 @@ module _ (ns bs : List ℕ) (c : Cursor) (ol : ℕ) (p : Piece flattenItem FineI
       ap (λ l. take (getD ns (c .number + 3) 0) l) (sym e) ∙ take-at (i .value) (p .rest .bytes) _ (sym (item-reads .3))
 
   module _ (k : ℕ) (ek : k ≡ lengthBytes (kindOf (getD ns (c .number + 1) 0))) where
-    item-moved : record { number = c .number + 4; element = c .element; byte = c .byte + getD ns (c .number + 3) 0; out = c .out + 4 + k + getD ns (c .number + 3) 0 }
+    item-moved : record {
+      number = c .number + 4;
+      element = c .element;
+      byte = c .byte + getD ns (c .number + 3) 0;
+      out =
+          c .out + 4 + k + getD ns (c .number + 3) 0;
+    }
         ≡ moved c (flattenItem i) (encodeItem i)
     unfolding flattenItem
     item-moved =
@@ -99,7 +105,8 @@ module _ (ns bs : List ℕ) (c : Cursor) (ol : ℕ) (p : Piece flattenItem FineI
         let o : c .out + 4 + k + getD ns (c .number + 3) 0 ≡ c .out + length (encodeItem i) = omega (arith, item-length i, kk, r .3) in
         λ j. record { number = c .number + 4; element = z j; byte = c .byte + r .3 j; out = o j }
 
-    item-wrote : (o₀ o₁ o₂ o₃ : List ℕ) → o₁ ≡ sets o₀ (c .out) (bytes 2 (getD ns (c .number) 0) ++ bytes 1 (getD ns (c .number + 1) 0) ++ bytes 1 (getD ns (c .number + 2) 0))
+    item-wrote : (o₀ o₁ o₂ o₃ : List ℕ)
+        → o₁ ≡ sets o₀ (c .out) (bytes 2 (getD ns (c .number) 0) ++ bytes 1 (getD ns (c .number + 1) 0) ++ bytes 1 (getD ns (c .number + 2) 0))
         → o₂ ≡ sets o₁ (c .out + 4) (bytes (lengthBytes (kindOf (getD ns (c .number + 1) 0))) (getD ns (c .number + 3) 0))
         → o₃ ≡ sets o₂ (c .out + 4 + k) (take (getD ns (c .number + 3) 0) (drop (c .byte) bs)) → o₃ ≡ sets o₀ (c .out) (encodeItem i)
     unfolding encodeItem
@@ -114,7 +121,8 @@ module _ (ns bs : List ℕ) (c : Cursor) (ol : ℕ) (p : Piece flattenItem FineI
         let g1 : o₃ ≡ sets o₂ (c .out + length (h ++ l)) (i .value) = g ∙ rw (value-is, place) refl in
         sets-twice o₀ o₂ o₃ (c .out) (h ++ l) (i .value) (sets-twice o₀ o₁ o₂ (c .out) h l e1 f1) g1
 
-    pub item-did : (o₀ o₁ o₂ o₃ : List ℕ) → o₁ ≡ sets o₀ (c .out) (bytes 2 (getD ns (c .number) 0) ++ bytes 1 (getD ns (c .number + 1) 0) ++ bytes 1 (getD ns (c .number + 2) 0))
+    pub item-did : (o₀ o₁ o₂ o₃ : List ℕ)
+        → o₁ ≡ sets o₀ (c .out) (bytes 2 (getD ns (c .number) 0) ++ bytes 1 (getD ns (c .number + 1) 0) ++ bytes 1 (getD ns (c .number + 2) 0))
         → o₂ ≡ sets o₁ (c .out + 4) (bytes (lengthBytes (kindOf (getD ns (c .number + 1) 0))) (getD ns (c .number + 3) 0))
         → o₃ ≡ sets o₂ (c .out + 4 + k) (take (getD ns (c .number + 3) 0) (drop (c .byte) bs))
         → Emitted flattenItem FineItem encodeItem c (tableOf ns [] bs) o₀ o₃

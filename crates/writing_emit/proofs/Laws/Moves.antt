@@ -38,7 +38,8 @@ room-first c e g x y t ol r =
       length-append x y,
     )
 
-pub room-second : (c : Cursor) (e g : Table) (x y : List ℕ) (t : Table) (ol : ℕ) → Room c (join e g) (length (x ++ y)) t ol → Room (moved c e x) g (length y) t ol
+pub room-second : (c : Cursor) (e g : Table) (x y : List ℕ) (t : Table) (ol : ℕ) → Room c (join e g) (length (x ++ y)) t ol
+    → Room (moved c e x) g (length y) t ol
 room-second c e g x y t ol r =
     omega (
       arith,
@@ -54,7 +55,8 @@ pub ahead-moved : (c : Cursor) (e rest : Table) (x : List ℕ) (t : Table) → j
 ahead-moved c e rest x t h = rest-at e rest t (c .number) (c .element) (c .byte) h
 
 -- what is shown of one piece that stands there is so of all, for there is one only
-pub emitted : {A : Type 0} (E : A → Table) (F : A → Type 0) (B : A → List ℕ) → Unique E F → (c : Cursor) (t : Table) (o₀ o₁ : List ℕ) (r : Cursor) (a : A) (rest : Table)
+pub emitted : {A : Type 0} (E : A → Table) (F : A → Type 0) (B : A → List ℕ) → Unique E F
+    → (c : Cursor) (t : Table) (o₀ o₁ : List ℕ) (r : Cursor) (a : A) (rest : Table)
     → F a → join (E a) rest ≡ ahead c t → r ≡ moved c (E a) (B a) → o₁ ≡ sets o₀ (c .out) (B a) → Emitted E F B c t o₀ o₁ r
 emitted {A} E F B U c t o₀ o₁ r a rest f e m w = record {
   all = λ b u g h.

@@ -60,7 +60,8 @@ stored-more (w ∷ ws) [] r f = absurd f
 stored-more (w ∷ ws) (x ∷ xs) r f = ap (λ l. bytes w x ++ l) (stored-more ws xs r (f .1))
 
 -- the part at the cursor, whatever its bytes are
-module _ (B : Shape → Part → List ℕ) (ns es bs : List ℕ) (s : Shape) (c : Cursor) (ol : ℕ) (p : Piece flattenPart (PartFits s) (B s) c (tableOf ns es bs) ol) where
+module _ (B : Shape → Part → List ℕ) (ns es bs : List ℕ) (s : Shape) (c : Cursor) (ol : ℕ)
+    (p : Piece flattenPart (PartFits s) (B s) c (tableOf ns es bs) ol) where
   numbers-are : p .value .points ∷ length (p .value .text) ∷ p .rest .numbers ≡ drop (c .number) ns
   unfolding flattenPart
   numbers-are = ap (λ (t : Table). t .numbers) (p .is)
@@ -163,7 +164,8 @@ module _ (ns es bs : List ℕ) (s : Shape) (c : Cursor) (ol : ℕ) (p : Piece fl
 abbrev pub past : Cursor → ℕ → Cursor
 past c k = record { number = c .number; element = c .element; byte = c .byte; out = c .out + k }
 
-module _ (ns es bs : List ℕ) (s : Shape) (c : Cursor) (o₀ : List ℕ) (p : Piece flattenPart (PartFits s) (subobjectBytes s) c (tableOf ns es bs) (length o₀)) where
+module _ (ns es bs : List ℕ) (s : Shape) (c : Cursor) (o₀ : List ℕ)
+    (p : Piece flattenPart (PartFits s) (subobjectBytes s) c (tableOf ns es bs) (length o₀)) where
   abbrev later : Part
   later = p .value
 

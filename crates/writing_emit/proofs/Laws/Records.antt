@@ -155,7 +155,8 @@ module _ (ns es bs : List ℕ) (c : Cursor) (o₀ : List ℕ) (p : Piece flatten
   its = joined flattenItem (r .items)
 
   whole : join (flattenHeader r) (join (join (metricTable inside) its) (p .rest)) ≡ ahead c (tableOf ns es bs)
-  whole = sym (join-assoc (flattenHeader r) (join (metricTable inside) its) (p .rest)) ∙ subst (λ t. join t (p .rest) ≡ ahead c (tableOf ns es bs)) table-is (p .is)
+  whole = sym (join-assoc (flattenHeader r) (join (metricTable inside) its) (p .rest))
+      ∙ subst (λ t. join t (p .rest) ≡ ahead c (tableOf ns es bs)) table-is (p .is)
 
   inside-is : join (join (metricTable inside) its) (p .rest) ≡ ahead past32 (tableOf ns es bs)
   inside-is =
@@ -204,7 +205,8 @@ module _ (ns es bs : List ℕ) (c : Cursor) (o₀ : List ℕ) (p : Piece flatten
     body-fits = (rw (same-shape, same-count) inside-fits, (sym items-is, p .fine .items))
 
     -- metric and items, one after another
-    body-piece : Piece (pairTable metricTable (joined flattenItem)) (Both (MetricFits s n) (Counted k FineItem)) (pairBytes (metricBytes s) (flat encodeItem)) past32
+    body-piece : Piece (pairTable metricTable (joined flattenItem)) (Both (MetricFits s n) (Counted k FineItem))
+        (pairBytes (metricBytes s) (flat encodeItem)) past32
         (tableOf ns es bs) (length o₀)
     body-piece = record {
       value = (inside, r .items);
@@ -212,18 +214,21 @@ module _ (ns es bs : List ℕ) (c : Cursor) (o₀ : List ℕ) (p : Piece flatten
       is = inside-is;
       fine = body-fits;
       room =
-          subst (λ x. Room past32 (join (metricTable inside) its) (length x) (tableOf ns es bs) (length o₀)) (ap₂ (λ a b. a ++ b) (sym metric-is) (sym semantics-is)) inside-room;
+          subst (λ x. Room past32 (join (metricTable inside) its) (length x) (tableOf ns es bs) (length o₀))
+          (ap₂ (λ a b. a ++ b) (sym metric-is) (sym semantics-is)) inside-room;
     }
 
     metric-unique : Unique metricTable (MetricFits s n)
-    metric-unique = pair-unique flattenPart (PartFits s) (part-unique s) (joined flattenPart) (Counted n (PartFits s)) (list-unique flattenPart (PartFits s) (part-unique s) n)
+    metric-unique = pair-unique flattenPart (PartFits s) (part-unique s) (joined flattenPart) (Counted n (PartFits s))
+        (list-unique flattenPart (PartFits s) (part-unique s) n)
 
     pub metric-ask : Piece metricTable (MetricFits s (getD ns (c .number + 6) 0 - 1)) (metricBytes s) past32 (tableOf ns es bs) (length o₀)
     metric-ask =
         pair-first metricTable (MetricFits s n) (metricBytes s) (joined flattenItem) (Counted k FineItem) (flat encodeItem) metric-unique
         (list-unique flattenItem FineItem item-unique k) past32 (tableOf ns es bs) o₀ body-piece
 
-    module _ (o₁ : List ℕ) (d : Cursor) (one : Emitted metricTable (MetricFits s (getD ns (c .number + 6) 0 - 1)) (metricBytes s) past32 (tableOf ns es bs) o₀ o₁ d) where
+    module _ (o₁ : List ℕ) (d : Cursor)
+        (one : Emitted metricTable (MetricFits s (getD ns (c .number + 6) 0 - 1)) (metricBytes s) past32 (tableOf ns es bs) o₀ o₁ d) where
       items-piece : Piece (joined flattenItem) (Counted k FineItem) (flat encodeItem) d (tableOf ns es bs) (length o₁)
       items-piece =
           pair-second metricTable (MetricFits s n) (metricBytes s) (joined flattenItem) (Counted k FineItem) (flat encodeItem) metric-unique
@@ -237,7 +242,8 @@ module _ (ns es bs : List ℕ) (c : Cursor) (o₀ : List ℕ) (p : Piece flatten
         abbrev end : Cursor
         end = record { number = e .number; element = d .element; byte = e .byte; out = e .out }
 
-        both : Emitted (pairTable metricTable (joined flattenItem)) (Both (MetricFits s n) (Counted k FineItem)) (pairBytes (metricBytes s) (flat encodeItem)) past32
+        both : Emitted (pairTable metricTable (joined flattenItem)) (Both (MetricFits s n) (Counted k FineItem))
+            (pairBytes (metricBytes s) (flat encodeItem)) past32
             (tableOf ns es bs) o₀ o₂ end
         both =
             pair-done metricTable (MetricFits s n) (metricBytes s) (joined flattenItem) (Counted k FineItem) (flat encodeItem) metric-unique
@@ -252,7 +258,8 @@ module _ (ns es bs : List ℕ) (c : Cursor) (o₀ : List ℕ) (p : Piece flatten
 
         middle : d .out ≡ c .out + 32 + metric
         middle =
-            ap (λ (z : Cursor). z .out) (one .all inside (join its (p .rest)) (body-fits .0) (sym (join-assoc (metricTable inside) its (p .rest)) ∙ inside-is) .0)
+            ap (λ (z : Cursor). z .out)
+            (one .all inside (join its (p .rest)) (body-fits .0) (sym (join-assoc (metricTable inside) its (p .rest)) ∙ inside-is) .0)
             ∙ ap (λ (x : List ℕ). c .out + 32 + length x) metric-is
 
         last : e .out ≡ c .out + 32 + metric + semantics
@@ -272,7 +279,8 @@ module _ (ns es bs : List ℕ) (c : Cursor) (o₀ : List ℕ) (p : Piece flatten
             (omega (arith, l, room, length-record r), omega (arith, small, length-record r, lengths-are))
 
         pub record-did : (o₃ : List ℕ) → o₃ ≡ sets o₂ (c .out) (headerOf (drop (c .number) ns) (d .out - (c .out + 32)) (e .out - d .out))
-            → Emitted flattenRecord FineRecord encodeRecord c (tableOf ns es bs) o₀ o₃ (record { number = e .number; element = d .element; byte = e .byte; out = e .out })
+            → Emitted flattenRecord FineRecord encodeRecord c (tableOf ns es bs) o₀ o₃
+            (record { number = e .number; element = d .element; byte = e .byte; out = e .out })
         record-did o₃ h =
             let h1 : o₃ ≡ sets o₂ (c .out) header = h ∙ rw (lengths-are .0, lengths-are .1, header-is) refl in
             let long : c .out + length header ≡ c .out + 32 = ap (λ x. c .out + x) (length-header r metric semantics) in

@@ -1,3 +1,4 @@
+-- The loop keeps `Copying`: the bytes left, written onto out as it is now, give what all n give on out as it came; a turn copies one.
 use Prim.Native.Nat.{_-_}
 use mathlib.Core.Path.{refl}
 use native.Mathlib.Omega.{arith}

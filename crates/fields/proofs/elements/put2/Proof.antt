@@ -1,3 +1,4 @@
+-- The loop keeps `Storing` for width 2: the elements left, written onto out as it is, give the whole; a turn stores two low bytes (`bytes-low`).
 use Prim.Native.Nat.{_-_}
 use mathlib.Core.List.{[], _∷_}
 use native.Mathlib.Omega.{arith}
@@ -18,9 +19,9 @@ loop-holds c = store-start _ _ _ _ _ _
 
 loop-again : tie.Need-loop-again Inv-loop μ-loop
 loop-again c =
-    let loop = c .before .before .before .before .before .before .loop in
-    let put-u16 = c .before .before .put-u16 in
-    store-one _ _ _ _ _ _ _ _ _ _ (loop .inv) (omega arith) (omega arith) (bytes-low 2 _) (put-u16 .ensures)
+    let after-put-u16 = c .before .before in
+    store-one _ _ _ _ _ _ _ _ _ _ (after-put-u16 .before .before .before .before .loop .inv) (omega arith) (omega arith) (bytes-low 2 _)
+    (after-put-u16 .put-u16 .ensures)
 
 returns : tie.Need-returns Inv-loop μ-loop
 returns c = store-done _ _ _ _ _ _ _ _ (c .before .loop .inv) (omega arith)

@@ -1,3 +1,4 @@
+-- The loop keeps `Storing` for width 8: the elements left, written onto out as it is, give the whole; a turn stores one element entire.
 use Prim.Native.Nat.{_-_}
 use mathlib.Core.List.{[], _∷_}
 use mathlib.Core.Path.{refl}
@@ -18,9 +19,8 @@ loop-holds c = store-start _ _ _ _ _ _
 
 loop-again : tie.Need-loop-again Inv-loop μ-loop
 loop-again c =
-    let loop = c .before .before .before .before .before .before .loop in
-    let put-u64 = c .before .before .put-u64 in
-    store-one _ _ _ _ _ _ _ _ _ _ (loop .inv) (omega arith) (omega arith) refl (put-u64 .ensures)
+    let after-put-u64 = c .before .before in
+    store-one _ _ _ _ _ _ _ _ _ _ (after-put-u64 .before .before .before .before .loop .inv) (omega arith) (omega arith) refl (after-put-u64 .put-u64 .ensures)
 
 returns : tie.Need-returns Inv-loop μ-loop
 returns c = store-done _ _ _ _ _ _ _ _ (c .before .loop .inv) (omega arith)

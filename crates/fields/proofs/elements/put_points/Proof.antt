@@ -1,3 +1,4 @@
+-- The loop keeps `Storing` for the widths 2, 2 and 4: the three stores of a turn write the bytes of one point (`store-three`).
 use Prim.Native.Nat.{_+_, _-_, _*_}
 use mathlib.Core.List.{[], _∷_}
 use native.Mathlib.Omega.{arith}
@@ -17,16 +18,14 @@ loop-holds c = store-start _ _ _ _ _ _
 
 loop-again : tie.Need-loop-again Inv-loop μ-loop
 loop-again c =
-    let start = c .before .before .before .before .before .before .before .before .before .before .before .before .before .before .before
-    .before .before .before .before in
-    let loop = c .before .before .before .before .before .before .before .before .before .before .before .before .before .before .before .before
-    .loop in
-    let put-u16 = c .before .before .before .before .before .before .before .before .before .before .before .before .put-u16 in
-    let put-u162 = c .before .before .before .before .before .before .before .put-u162 in
-    let put-u32 = c .before .before .put-u32 in
-    store-turn _ _ _ _ _ _ _ _ _ (loop .inv) (omega arith) (omega arith)
-    (store-three 2 2 4 (start .args .xs .now) (start .args .w + 8 * loop .i) (start .args .at + 3 * loop .i) (loop .out) _ _ _ (omega arith)
-    (put-u16 .ensures) (put-u162 .ensures) (put-u32 .ensures))
+    let after-put-u32 = c .before .before in
+    let after-put-u162 = after-put-u32 .before .before .before .before .before in
+    let after-put-u16 = after-put-u162 .before .before .before .before .before in
+    let at-loop = after-put-u16 .before .before .before .before in
+    let start = at-loop .before .before .before in
+    store-turn _ _ _ _ _ _ _ _ _ (at-loop .loop .inv) (omega arith) (omega arith)
+    (store-three 2 2 4 (start .args .xs .now) (start .args .w + 8 * at-loop .loop .i) (start .args .at + 3 * at-loop .loop .i) (at-loop .loop .out) _ _ _
+    (omega arith) (after-put-u16 .put-u16 .ensures) (after-put-u162 .put-u162 .ensures) (after-put-u32 .put-u32 .ensures))
 
 returns : tie.Need-returns Inv-loop μ-loop
 returns c = store-done _ _ _ _ _ _ _ _ (c .before .loop .inv) (omega arith)

@@ -1,3 +1,4 @@
+-- Each link hands on the step so far (`_▸_`), so the six calls are the list `carriedBy`: four demands and then two features.
 use Rattle.fields.proofs.Laws.Chain.{_▸_}
 use borrow.Author.Needs.{needs}
 use Rattle.fields.proofs.flags.carried_by.Statement.{statement}
@@ -5,14 +6,12 @@ use Rattle.fields.proofs.flags.carried_by.Tie as tie
 
 returns : tie.Need-returns
 returns c =
-    let demand = c .before .before .before .before .before .demand in
-    let demand2 = c .before .before .before .before .demand2 in
-    let demand3 = c .before .before .before .demand3 in
-    let demand4 = c .before .before .demand4 in
-    demand .ensures _
-    ▸ demand2 .ensures _
-    ▸ demand3 .ensures _
-    ▸ demand4 .ensures _
+    let after-demand4 = c .before .before in
+    let after-demand3 = after-demand4 .before in
+    after-demand3 .before .before .demand .ensures _
+    ▸ after-demand3 .before .demand2 .ensures _
+    ▸ after-demand3 .demand3 .ensures _
+    ▸ after-demand4 .demand4 .ensures _
     ▸ c .before .feature .ensures
     ▸ c .feature2 .ensures
 

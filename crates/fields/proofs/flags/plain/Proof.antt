@@ -1,3 +1,4 @@
+-- Where the test is true, each of its five comparisons holds, and such bytes pass every check at every setting (`plain-passes`).
 use Prim.Native.Nat.{_%_}
 use mathlib.Core.Bool.{_&&_}
 use lib.Dec.{eqb, leb, ltb}

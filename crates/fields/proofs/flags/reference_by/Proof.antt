@@ -1,3 +1,4 @@
+-- Each link hands on the step so far (`_▸_`), so the twelve calls are the definition's `referenceChecks`, in its order and from a fine step.
 use native.Mathlib.Omega.{arith}
 use Rattle.fields.proofs.Laws.Chain.{_▸_}
 use Rattle.layout.specs.Shared.Reference.{byte20, byte21, byte22, referenceChecks}
@@ -13,26 +14,22 @@ demand-requires-4 c κs =
 returns : tie.Need-returns
 unfolding referenceChecks byte20 byte21 byte22
 returns c =
-    let demand = c .before .before .before .before .before .before .before .before .before .before .before .demand in
-    let feature = c .before .before .before .before .before .before .before .before .before .before .feature in
-    let feature2 = c .before .before .before .before .before .before .before .before .before .feature2 in
-    let feature3 = c .before .before .before .before .before .before .before .before .feature3 in
-    let feature4 = c .before .before .before .before .before .before .before .feature4 in
-    let feature5 = c .before .before .before .before .before .before .feature5 in
-    let feature6 = c .before .before .before .before .before .feature6 in
-    let feature7 = c .before .before .before .before .feature7 in
-    let demand2 = c .before .before .before .demand2 in
-    let demand3 = c .before .before .demand3 in
-    demand .ensures _
-    ▸ feature .ensures
-    ▸ feature2 .ensures
-    ▸ feature3 .ensures
-    ▸ feature4 .ensures
-    ▸ feature5 .ensures
-    ▸ feature6 .ensures
-    ▸ feature7 .ensures
-    ▸ demand2 .ensures _
-    ▸ demand3 .ensures _
+    let after-demand3 = c .before .before in
+    let after-demand2 = after-demand3 .before in
+    let after-feature6 = after-demand2 .before .before in
+    let after-feature5 = after-feature6 .before in
+    let after-feature3 = after-feature5 .before .before in
+    let after-feature2 = after-feature3 .before in
+    after-feature2 .before .before .demand .ensures _
+    ▸ after-feature2 .before .feature .ensures
+    ▸ after-feature2 .feature2 .ensures
+    ▸ after-feature3 .feature3 .ensures
+    ▸ after-feature5 .before .feature4 .ensures
+    ▸ after-feature5 .feature5 .ensures
+    ▸ after-feature6 .feature6 .ensures
+    ▸ after-demand2 .before .feature7 .ensures
+    ▸ after-demand2 .demand2 .ensures _
+    ▸ after-demand3 .demand3 .ensures _
     ▸ c .before .feature8 .ensures
     ▸ c .demand4 .ensures _
 

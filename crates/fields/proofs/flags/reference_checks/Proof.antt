@@ -1,3 +1,4 @@
+-- A refused step stays as it is; from a fine one, plain bytes pass every check (contract of `plain`), and others are checked by `reference_by`.
 use mathlib.Core.Path.{refl}
 use borrow.Author.Needs.{needs}
 use Rattle.fields.specs.Steps.{afterOf}
@@ -6,13 +7,11 @@ use Rattle.fields.proofs.flags.reference_checks.Tie as tie
 
 returns : tie.Need-returns
 returns c =
-    let enum-told = c .before .before .enum-told in
-    rw (enum-told .given .1) (c .before .plain .ensures (c .if1 .taken) _ _ _ _ _)
+    rw (c .before .before .enum-told .given .1) (c .before .plain .ensures (c .if1 .taken) _ _ _ _ _)
 
 returns-2 : tie.Need-returns-2
 returns-2 c =
-    let enum-told = c .before .before .before .enum-told in
-    rw (enum-told .given .1) (c .reference-by .ensures)
+    rw (c .before .before .before .enum-told .given .1) (c .reference-by .ensures)
 
 returns-3 : tie.Need-returns-3
 unfolding afterOf

@@ -1,3 +1,4 @@
+-- Each link hands on the step so far (`_▸_`), so the nine calls are the list `restBy`, in its order.
 use Rattle.fields.proofs.Laws.Chain.{_▸_}
 use borrow.Author.Needs.{needs}
 use Rattle.fields.proofs.flags.rest_by.Statement.{statement}
@@ -5,20 +6,16 @@ use Rattle.fields.proofs.flags.rest_by.Tie as tie
 
 returns : tie.Need-returns
 returns c =
-    let demand = c .before .before .before .before .before .before .before .before .demand in
-    let demand2 = c .before .before .before .before .before .before .before .demand2 in
-    let demand3 = c .before .before .before .before .before .before .demand3 in
-    let feature = c .before .before .before .before .before .feature in
-    let demand4 = c .before .before .before .before .demand4 in
-    let feature2 = c .before .before .before .feature2 in
-    let feature3 = c .before .before .feature3 in
-    demand .ensures _
-    ▸ demand2 .ensures _
-    ▸ demand3 .ensures _
-    ▸ feature .ensures
-    ▸ demand4 .ensures _
-    ▸ feature2 .ensures
-    ▸ feature3 .ensures
+    let after-feature3 = c .before .before in
+    let after-demand4 = after-feature3 .before .before in
+    let after-demand3 = after-demand4 .before .before in
+    after-demand3 .before .before .demand .ensures _
+    ▸ after-demand3 .before .demand2 .ensures _
+    ▸ after-demand3 .demand3 .ensures _
+    ▸ after-demand4 .before .feature .ensures
+    ▸ after-demand4 .demand4 .ensures _
+    ▸ after-feature3 .before .feature2 .ensures
+    ▸ after-feature3 .feature3 .ensures
     ▸ c .before .feature4 .ensures
     ▸ c .feature5 .ensures
 

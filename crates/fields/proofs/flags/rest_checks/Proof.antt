@@ -1,3 +1,4 @@
+-- The five numbers and two tests for zeros are the values that `restBy` takes, and its list of them is the definition's `restChecks` (`rest-by`).
 use Rattle.fields.proofs.Laws.Chain.{as-checks}
 use Rattle.fields.specs.Flags.{rest-by}
 use borrow.Author.Needs.{needs}
@@ -6,25 +7,21 @@ use Rattle.fields.proofs.flags.rest_checks.Tie as tie
 
 returns : tie.Need-returns
 returns c =
-    let u8-at = c .before .before .before .before .before .before .before .before .before .u8-at in
-    let u8-at2 = c .before .before .before .before .before .before .before .before .u8-at2 in
-    let u8-at3 = c .before .before .before .before .before .before .before .u8-at3 in
-    let u8-at4 = c .before .before .before .before .before .before .u8-at4 in
-    let u32-at = c .before .before .before .before .before .u32-at in
-    let part = c .before .before .before .before .part in
-    let all-zero = c .before .before .before .all-zero in
-    let part2 = c .before .before .part2 in
+    let after-part2 = c .before .before in
+    let after-part = after-part2 .before .before in
+    let after-u8-at4 = after-part .before .before in
+    let after-u8-at3 = after-u8-at4 .before in
     as-checks
     (rw (
-      u8-at .ensures,
-      u8-at2 .ensures,
-      u8-at3 .ensures,
-      u8-at4 .ensures,
-      u32-at .ensures,
-      all-zero .ensures,
-      part .ensures,
+      after-u8-at3 .before .before .u8-at .ensures,
+      after-u8-at3 .before .u8-at2 .ensures,
+      after-u8-at3 .u8-at3 .ensures,
+      after-u8-at4 .u8-at4 .ensures,
+      after-part .before .u32-at .ensures,
+      after-part2 .before .all-zero .ensures,
+      after-part .part .ensures,
       c .before .all-zero2 .ensures,
-      part2 .ensures,
+      after-part2 .part2 .ensures,
     )
     (rest-by _))
     (c .rest-by .ensures)

@@ -1,3 +1,4 @@
+-- The slice p..p + n has p + n less p bytes, which are n, so it is what `take n` of `drop p` gives.
 use native.Mathlib.Nat.{add-sub-cancel-left}
 use borrow.Author.Needs.{needs}
 use Rattle.fields.proofs.numbers.part.Statement.{statement}

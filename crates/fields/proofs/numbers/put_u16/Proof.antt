@@ -1,3 +1,4 @@
+-- The remainder and the quotient by 256 are the two bytes of the number (`put-two`), and the first store keeps the length for the second.
 use native.Mathlib.Omega.{arith}
 use lib.ListN.{length-set}
 use Rattle.fields.proofs.Laws.Low.{put-two}

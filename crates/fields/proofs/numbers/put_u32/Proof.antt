@@ -1,3 +1,4 @@
+-- The low two bytes and the two above them, each written by `put_u16`, are the four bytes of the number (`put-parts` at 2 and 2).
 use Rattle.fields.proofs.Laws.Low.{put-parts}
 use borrow.Author.Needs.{needs}
 use Rattle.fields.proofs.numbers.put_u32.Statement.{statement}
@@ -5,10 +6,10 @@ use Rattle.fields.proofs.numbers.put_u32.Tie as tie
 
 returns : tie.Need-returns
 returns c =
-    let start = c .before .before .before .before .before .before .before .before .before in
-    let put-u16 = c .before .before .before .before .before .before .put-u16 in
-    let put-u162 = c .before .before .put-u162 in
-    rw (put-u162 .ensures, put-u16 .ensures) (put-parts 2 2 (start .args .out .now) (start .args .w) (start .args .x))
+    let after-put-u162 = c .before .before in
+    let after-put-u16 = after-put-u162 .before .before .before .before in
+    let start = after-put-u16 .before .before .before in
+    rw (after-put-u162 .put-u162 .ensures, after-put-u16 .put-u16 .ensures) (put-parts 2 2 (start .args .out .now) (start .args .w) (start .args .x))
 
 pub put-u32-spec : {M : Type 1} → statement M
 put-u32-spec =

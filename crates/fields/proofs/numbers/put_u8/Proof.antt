@@ -1,3 +1,4 @@
+-- A number below 256 is its own byte, so the one store is what `bytes 1` writes (`put-one`).
 use native.Mathlib.Omega.{arith}
 use Rattle.fields.proofs.Laws.Low.{put-one}
 use borrow.Author.Needs.{needs}

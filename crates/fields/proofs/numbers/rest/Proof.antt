@@ -1,3 +1,4 @@
+-- The slice from p to the end has as many bytes as are left, so it is all that `drop p` gives (`rest-is`).
 use denote.Ref.{now}
 use Rattle.fields.proofs.Laws.Lists.{rest-is}
 use borrow.Author.Needs.{needs}

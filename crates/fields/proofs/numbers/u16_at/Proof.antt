@@ -1,3 +1,4 @@
+-- A number of two bytes is its first byte and 256 times its second (`number-join` at 1 and 1).
 use native.Mathlib.Omega.{arith}
 use denote.Ref.{now}
 use Rattle.fields.proofs.Laws.Lists.{number-join}
@@ -6,7 +7,9 @@ use Rattle.fields.proofs.numbers.u16_at.Statement.{statement}
 use Rattle.fields.proofs.numbers.u16_at.Tie as tie
 
 returns : tie.Need-returns
-returns c = let a = c .before .before .before .args in omega (arith, number-join 1 1 (now (a .s)) (a .p))
+returns c =
+    let start = c .before .before .before in
+    omega (arith, number-join 1 1 (now (start .args .s)) (start .args .p))
 
 pub u16-at-spec : {M : Type 1} → statement M
 u16-at-spec =

@@ -1,3 +1,4 @@
+-- A number of four bytes is that of its first two and 65536 times that of the next two (`number-join` at 2 and 2).
 use native.Mathlib.Omega.{arith}
 use denote.Ref.{now}
 use Rattle.fields.proofs.Laws.Lists.{number-join}
@@ -6,7 +7,9 @@ use Rattle.fields.proofs.numbers.u32_at.Statement.{statement}
 use Rattle.fields.proofs.numbers.u32_at.Tie as tie
 
 returns : tie.Need-returns
-returns c = let a = c .before .before .before .args in omega (arith, number-join 2 2 (now (a .s)) (a .p))
+returns c =
+    let start = c .before .before .before in
+    omega (arith, number-join 2 2 (now (start .args .s)) (start .args .p))
 
 pub u32-at-spec : {M : Type 1} → statement M
 u32-at-spec =

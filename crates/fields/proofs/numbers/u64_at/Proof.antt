@@ -1,3 +1,4 @@
+-- A number of eight bytes is that of its first four and 2 ^ 32 times that of the next four (`number-join` at 4 and 4).
 use native.Mathlib.Omega.{arith}
 use denote.Ref.{now}
 use Rattle.fields.proofs.Laws.Lists.{number-join}
@@ -6,7 +7,9 @@ use Rattle.fields.proofs.numbers.u64_at.Statement.{statement}
 use Rattle.fields.proofs.numbers.u64_at.Tie as tie
 
 returns : tie.Need-returns
-returns c = let a = c .before .before .before .args in omega (arith, number-join 4 4 (now (a .s)) (a .p))
+returns c =
+    let start = c .before .before .before in
+    omega (arith, number-join 4 4 (now (start .args .s)) (start .args .p))
 
 pub u64-at-spec : {M : Type 1} → statement M
 u64-at-spec =

@@ -1,3 +1,4 @@
+-- The byte that stands at p is the number of one byte there (`number-one`).
 use Rattle.fields.proofs.Laws.Lists.{number-one}
 use borrow.Author.Needs.{needs}
 use Rattle.fields.proofs.numbers.u8_at.Statement.{statement}

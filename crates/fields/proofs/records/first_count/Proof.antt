@@ -1,3 +1,4 @@
+-- Two cases, as in `firstCount`: under the mark the word is the count, and otherwise the count of points itself is.
 use borrow.Author.Tests.{ne-eqb}
 use mathlib.Core.Path.{refl}
 use Rattle.fields.proofs.records.first_count.Statement.{statement}

@@ -1,3 +1,4 @@
+-- A point has three elements or two, by its dimensions, and fewer than 2 ^ 32 points keep the product below 2 ^ 34.
 use mathlib.Core.Path.{refl}
 use native.Mathlib.Omega.{arith}
 use borrow.Author.Needs.{needs}

@@ -1,3 +1,4 @@
+-- By the dimensions, each of the two cases is the contract of the function that was called, with its bound of 24 bytes.
 use borrow.Author.Needs.{needs}
 use Rattle.fields.proofs.shapes.point_size.Statement.{statement}
 use Rattle.fields.proofs.shapes.point_size.Tie as tie

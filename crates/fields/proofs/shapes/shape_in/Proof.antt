@@ -1,3 +1,4 @@
+-- The three bytes of the number are the reference that `referenceOf` gives (contract of `reference_bytes`), so their shape is its shape.
 use mathlib.Core.Path.{_∙_, ap}
 use Rattle.fields.specs.Shapes.{shapeOf}
 use borrow.Author.Needs.{needs}

@@ -1,3 +1,4 @@
+-- Three cases: a check that holds leaves the step as it is (`after-fine`), one that fails refuses from a fine step, and a refusal stays.
 use borrow.Author.Needs.{needs}
 use Rattle.fields.specs.Steps.{stepOf, afterOf}
 use Rattle.fields.proofs.Laws.Chain.{after-fine}

@@ -1,3 +1,4 @@
+-- Four cases: a feature that is off or not too new leaves the step (`after-fine`), one too new refuses from a fine step, and a refusal stays.
 use borrow.Author.Tests.{le-leb, lt-leb}
 use borrow.Author.Needs.{needs}
 use Rattle.fields.specs.Steps.{stepOf, afterOf}
@@ -12,9 +13,8 @@ returns c = record { is = simp (c .before .if1 .taken, le-leb _ _ (c .if2 .taken
 returns-2 : tie.Need-returns-2
 unfolding afterOf stepOf
 returns-2 c =
-    let if1 = c .before .before .before .if1 in
-    let if2 = c .before .before .if2 in
-    record { is = simp (c .enum-told .given .1, if1 .taken, lt-leb _ _ (if2 .left)) }
+    let else2 = c .before .before in
+    record { is = simp (c .enum-told .given .1, else2 .before .if1 .taken, lt-leb _ _ (else2 .if2 .left)) }
 
 returns-3 : tie.Need-returns-3
 unfolding afterOf

@@ -1,3 +1,4 @@
+-- The loop over 64 bytes keeps: the sum and the total from here on make the total from `at` on, and at most 255 a byte it cannot overflow.
 use Prim.Native.Nat.{_+_, _-_, _*_, _≤_}
 use mathlib.Core.Path.{_≡_, ap}
 use native.Mathlib.Nat.{add-zero, zero-add}
@@ -23,20 +24,21 @@ add-sum c = omega arith
 
 cast-sum : tie.Need-cast-sum Inv-loop μ-loop
 cast-sum c =
-    let start = c .before .before .before in
-    let loop = c .before .before .loop in
-    omega (arith, c .shared-slice-known .given (start .args .at + loop .i))
+    let at-loop = c .before .before in
+    let start = at-loop .before in
+    omega (arith, c .shared-slice-known .given (start .args .at + at-loop .loop .i))
 
 add-sum-2 : tie.Need-add-sum-2 Inv-loop μ-loop
 add-sum-2 c =
-    let start = c .before .before .before in
-    let loop = c .before .before .loop in
-    omega (arith, c .shared-slice-known .given (start .args .at + loop .i))
+    let at-loop = c .before .before in
+    let start = at-loop .before in
+    omega (arith, c .shared-slice-known .given (start .args .at + at-loop .loop .i))
 
 loop-again : tie.Need-loop-again Inv-loop μ-loop
 loop-again c =
-    let start = c .before .before .before in
-    let i = c .before .before .loop .i in
+    let at-loop = c .before .before in
+    let start = at-loop .before in
+    let i = at-loop .loop .i in
     let s = now (start .args .s) in
     let at = start .args .at in
     omega (arith, c .shared-slice-known .given (at + i), total-next s at i (omega arith))

@@ -1,3 +1,4 @@
+-- The loop keeps: the sum and the total of the bytes left make the total of all, and at most 255 a byte within the limit it fits 32 bits.
 use Prim.Native.Nat.{_+_, _-_, _*_, _≤_}
 use mathlib.Core.Path.{_≡_}
 use native.Mathlib.Omega.{arith}
@@ -22,8 +23,9 @@ add-sum c = omega (arith, c .shared-slice-known .given (c .before .before .loop 
 
 loop-again : tie.Need-loop-again Inv-loop μ-loop
 loop-again c =
-    let start = c .before .before .before in
-    let i = c .before .before .loop .i in
+    let at-loop = c .before .before in
+    let start = at-loop .before in
+    let i = at-loop .loop .i in
     let s = now (start .args .s) in
     omega (arith, c .shared-slice-known .given i, total-step s i (omega arith))
 

@@ -1,3 +1,4 @@
+-- The bytes before the stated sum and those after it are summed apart, as in `sumOf`; their lengths bound both sums, so the addition fits.
 use mathlib.Core.Path.{ap}
 use native.Mathlib.Omega.{arith}
 use denote.Ref.{now}
@@ -17,16 +18,15 @@ sum-of-requires-2 c κs =
 
 add-result : tie.Need-add-result
 add-result c =
-    let start = c .before .before .before .before .before in
-    let part = c .before .before .before .part in
+    let after-part = c .before .before .before in
+    let start = after-part .before .before in
     let s = now (start .args .s) in
-    omega (arith, ap length (part .ensures), part-length s 0 12 (omega arith), ap length (c .before .rest .ensures), length-drop 16 s)
+    omega (arith, ap length (after-part .part .ensures), part-length s 0 12 (omega arith), ap length (c .before .rest .ensures), length-drop 16 s)
 
 returns : tie.Need-returns
 returns c =
-    let part = c .before .before .before .part in
-    let sum-of = c .before .before .sum-of in
-    simp (sum-of .ensures .0, c .sum-of2 .ensures .0, part .ensures, c .before .rest .ensures)
+    let after-rest = c .before in
+    simp (after-rest .before .sum-of .ensures .0, c .sum-of2 .ensures .0, after-rest .before .before .part .ensures, after-rest .rest .ensures)
 
 pub sheet-sum-spec : {M : Type 1} → statement M
 sheet-sum-spec =

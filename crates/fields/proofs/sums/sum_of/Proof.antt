@@ -1,3 +1,4 @@
+-- The loop keeps what `few` keeps, a block a turn (contract of `block`); the bytes after the last block are the contract of `few`.
 use Prim.Native.Nat.{_+_, _-_, _*_, _≤_}
 use mathlib.Core.Path.{_≡_, ap}
 use native.Mathlib.Omega.{arith}
@@ -16,26 +17,32 @@ abbrev μ-loop : tie.MeasureT-loop
 block-requires : tie.Need-block-requires Inv-loop μ-loop
 block-requires c κs = omega arith
 
+abbrev to-loop : tie.After-rest Inv-loop μ-loop → tie.At-loop Inv-loop μ-loop
+to-loop p = p .before .before
+
+abbrev to-start : tie.After-rest Inv-loop μ-loop → tie.Start Inv-loop μ-loop
+to-start p = to-loop p .before .before
+
 few-requires : tie.Need-few-requires Inv-loop μ-loop
 few-requires c κs =
-    let start = c .before .before .before .before in
-    let loop = c .before .before .loop in
-    rw (c .rest .ensures) (omega (arith, length-drop (loop .at) (now (start .args .s))))
+    let start = to-start c in
+    rw (c .rest .ensures) (omega (arith, length-drop (to-loop c .loop .at) (now (start .args .s))))
 
 add-result : tie.Need-add-result Inv-loop μ-loop
 add-result c =
-    let start = c .before .before .before .before .before in
-    let at = c .before .before .before .loop .at in
+    let after-rest = c .before in
+    let start = to-start after-rest in
+    let at = to-loop after-rest .loop .at in
     let s = now (start .args .s) in
-    omega (arith, ap length (c .before .rest .ensures), length-drop at s)
+    omega (arith, ap length (after-rest .rest .ensures), length-drop at s)
 
 returns : tie.Need-returns Inv-loop μ-loop
 returns c =
-    let start = c .before .before .before .before .before in
-    let at = c .before .before .before .loop .at in
-    let rest = c .before .rest in
+    let after-rest = c .before in
+    let start = to-start after-rest in
+    let at = to-loop after-rest .loop .at in
     let s = now (start .args .s) in
-    omega (arith, ap length (rest .ensures), ap total (rest .ensures), length-drop at s)
+    omega (arith, ap length (after-rest .rest .ensures), ap total (after-rest .rest .ensures), length-drop at s)
 
 pub sum-of-spec : {M : Type 1} → statement M
 sum-of-spec =

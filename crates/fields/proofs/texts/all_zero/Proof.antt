@@ -1,3 +1,4 @@
+-- The loop keeps: all bytes are zeros exactly if those from i on are; another byte answers false (`zeros-other`), the end true (`zeros-end`).
 use Prim.Native.Nat.{_+_, _-_, _≤_}
 use mathlib.Core.Path.{_≡_, refl}
 use native.Mathlib.Omega.{arith}
@@ -19,15 +20,17 @@ loop-holds c = (omega arith, refl)
 
 returns : tie.Need-returns Inv-loop μ-loop
 returns c =
-    let start = c .before .before .before .before in
-    let i = c .before .before .before .loop .i in
+    let at-loop = c .before .before .before in
+    let start = at-loop .before in
+    let i = at-loop .loop .i in
     let s = now (start .args .s) in
     cc (zeros-other s i (omega arith) (c .if1 .taken))
 
 loop-again : tie.Need-loop-again Inv-loop μ-loop
 loop-again c =
-    let start = c .before .before .before .before in
-    let i = c .before .before .before .loop .i in
+    let at-loop = c .before .before .before in
+    let start = at-loop .before in
+    let i = at-loop .loop .i in
     let s = now (start .args .s) in
     (omega arith, cc (zeros-more s i (omega arith) (c .if1 .left)))
 

@@ -1,3 +1,4 @@
+-- Two cases by the length of the text: bytes after it must all be zeros (`field-tail`), and without a byte after it there is no field (`field-full`).
 use mathlib.Core.Bool.{Bool}
 use mathlib.Core.Path.{_∙_, ap}
 use borrow.Author.Needs.{needs}
@@ -9,17 +10,17 @@ use Rattle.layout.specs.Bytes.{zeros}
 
 returns : tie.Need-returns
 returns c =
-    let start = c .before .before .before .before .before in
-    let n = c .before .before .before .text-length in
-    let if1 = c .before .before .if1 in
-    field-tail (now (start .args .s)) (n .result) _ (n .ensures) (if1 .taken)
-    (c .all-zero .ensures ∙ ap zeros (c .before .rest .ensures))
+    let after-rest = c .before in
+    let after-text-length = after-rest .before .before in
+    let start = after-text-length .before .before in
+    field-tail (now (start .args .s)) (after-text-length .text-length .result) _ (after-text-length .text-length .ensures) (after-rest .before .if1 .taken)
+    (c .all-zero .ensures ∙ ap zeros (after-rest .rest .ensures))
 
 returns-2 : tie.Need-returns-2
 returns-2 c =
-    let start = c .before .before .before in
-    let n = c .before .text-length in
-    field-full (now (start .args .s)) (n .result) (n .ensures) (c .if1 .left)
+    let after-text-length = c .before in
+    let start = after-text-length .before .before in
+    field-full (now (start .args .s)) (after-text-length .text-length .result) (after-text-length .text-length .ensures) (c .if1 .left)
 
 pub is-text-field-spec : {M : Type 1} → statement M
 is-text-field-spec = tie.close (tie.spec (λ c κs. search needs) (λ c κs. search needs) (λ c κs. search needs) returns returns-2)

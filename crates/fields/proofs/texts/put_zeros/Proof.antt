@@ -1,3 +1,4 @@
+-- The loop keeps `Clearing`, which is `Copying` from a list of zeros: the zeros left, written onto out as it is, give what all n give.
 use Prim.Native.Nat.{_-_}
 use native.Mathlib.Omega.{arith}
 use borrow.Author.Needs.{needs}

@@ -1,3 +1,4 @@
+-- The loop keeps: the text is i bytes and the text from i on, which is empty at the first zero (`text-zero`) and at the end (`text-end`).
 use Prim.Native.Nat.{_+_, _-_, _≤_}
 use mathlib.Core.Path.{_≡_}
 use native.Mathlib.Omega.{arith}
@@ -16,15 +17,17 @@ abbrev μ-loop : tie.MeasureT-loop
 
 returns : tie.Need-returns Inv-loop μ-loop
 returns c =
-    let start = c .before .before .before .before in
-    let i = c .before .before .before .loop .i in
+    let at-loop = c .before .before .before in
+    let start = at-loop .before in
+    let i = at-loop .loop .i in
     let s = now (start .args .s) in
     omega (arith, text-zero s i (omega arith) (c .if1 .taken))
 
 loop-again : tie.Need-loop-again Inv-loop μ-loop
 loop-again c =
-    let start = c .before .before .before .before in
-    let i = c .before .before .before .loop .i in
+    let at-loop = c .before .before .before in
+    let start = at-loop .before in
+    let i = at-loop .loop .i in
     let s = now (start .args .s) in
     omega (arith, text-more s i (omega arith) (c .if1 .left))
 

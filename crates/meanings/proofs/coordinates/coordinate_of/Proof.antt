@@ -1,3 +1,4 @@
+-- One case for each of the five units: the answer is that of `coordinateOf`, with the number that `number_of` promises.
 use Rattle.meanings.specs.Coordinates.{coordinateOf}
 use borrow.Author.Needs.{needs}
 use Rattle.meanings.proofs.coordinates.coordinate_of.Statement.{statement}
@@ -22,8 +23,7 @@ returns-4 c = simp (c .enum-told4 .given .1, c .before .before .number-of .ensur
 returns-5 : tie.Need-returns-5
 unfolding coordinateOf
 returns-5 c =
-    let number-of = c .before .before .before .number-of in
-    simp (c .before .unit .given .1, number-of .ensures)
+    simp (c .before .unit .given .1, c .before .before .before .number-of .ensures)
 
 pub coordinate-of-spec : {M : Type 1} → statement M
 coordinate-of-spec =

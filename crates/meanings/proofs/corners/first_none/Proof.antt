@@ -1,3 +1,4 @@
+-- The eight calls, from the last corner to the first, are the eight nested choices of `firstNone`, each by the contract of `place_or`.
 use Rattle.meanings.specs.Places.{firstNone}
 use borrow.Author.Needs.{needs}
 use Rattle.meanings.proofs.corners.first_none.Statement.{statement}
@@ -6,20 +7,17 @@ use Rattle.meanings.proofs.corners.first_none.Tie as tie
 returns : tie.Need-returns
 unfolding firstNone
 returns c =
-    let place-or = c .before .before .before .before .before .before .before .place-or in
-    let place-or2 = c .before .before .before .before .before .before .place-or2 in
-    let place-or3 = c .before .before .before .before .before .place-or3 in
-    let place-or4 = c .before .before .before .before .place-or4 in
-    let place-or5 = c .before .before .before .place-or5 in
-    let place-or6 = c .before .before .place-or6 in
+    let after-place-or7 = c .before in
+    let after-place-or5 = after-place-or7 .before .before in
+    let after-place-or3 = after-place-or5 .before .before in
     simp (
-      ← place-or .ensures,
-      ← place-or2 .ensures,
-      ← place-or3 .ensures,
-      ← place-or4 .ensures,
-      ← place-or5 .ensures,
-      ← place-or6 .ensures,
-      ← c .before .place-or7 .ensures,
+      ← after-place-or3 .before .before .place-or .ensures,
+      ← after-place-or3 .before .place-or2 .ensures,
+      ← after-place-or3 .place-or3 .ensures,
+      ← after-place-or5 .before .place-or4 .ensures,
+      ← after-place-or5 .place-or5 .ensures,
+      ← after-place-or7 .before .place-or6 .ensures,
+      ← after-place-or7 .place-or7 .ensures,
       ← c .place-or8 .ensures,
     )
 

@@ -1,3 +1,4 @@
+-- The bits are a NaN's exactly if they lie above an infinity's without the sign (`nanBits-above`), which is the comparison made.
 use mathlib.Core.Path.{sym}
 use lib.Ieee.{binary64}
 use lib.Ieee.Bits.{nanBits-above}

@@ -1,3 +1,4 @@
+-- Both branches are those of `placeOr`, since `not_number` answers the test that it makes.
 use Rattle.meanings.specs.Places.{placeOr}
 use borrow.Author.Needs.{needs}
 use Rattle.meanings.proofs.corners.place_or.Statement.{statement}

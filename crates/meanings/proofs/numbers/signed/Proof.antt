@@ -1,3 +1,4 @@
+-- From half on twice half is taken off, and below it the bits are the number; no value here leaves 64 bits (`twice-fits`, `less-fits`).
 use mathlib.Core.Path.{_∙_}
 use native.Mathlib.Omega.{arith}
 use borrow.Author.Tests.{le-leb, lt-leb}

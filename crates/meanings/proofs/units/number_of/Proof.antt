@@ -1,3 +1,4 @@
+-- One case for each kind of element; a float is made only of bits that are no NaN's (`no-nan`), and a NaN keeps its bits (`is-nan`).
 use lib.Ieee.{binary32, binary64}
 use mathlib.Core.Path.{ap}
 use native.Mathlib.Omega.{arith}

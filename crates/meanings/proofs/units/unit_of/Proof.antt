@@ -1,3 +1,4 @@
+-- Five cases, as in `unitOf`: device points unless one of three fields says real, and then the unit byte's three values or an unknown unit.
 use borrow.Author.Tests.{ne-eqb}
 use Rattle.layout.specs.Answers.Units.{unitOf}
 use Rattle.meanings.proofs.units.unit_of.Statement.{statement}

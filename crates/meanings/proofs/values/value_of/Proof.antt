@@ -1,3 +1,4 @@
+-- Types 1, 2 and 4 take as many low bytes as the item's value has (`number-low`); any other type is answered by its number (`other`).
 use native.Mathlib.Nat.{mod-eq-of-lt}
 use native.Mathlib.Omega.{arith}
 use Rattle.layout.specs.Answers.Values.{semanticValue, itemOf}

@@ -1,3 +1,4 @@
+-- Bit 7 of the flags picks the same table as in `denominatorOf`, and each table has the 16 levels asked for.
 use borrow.Author.Tests.{eq-eqb, ne-eqb}
 use Rattle.meanings.specs.Levels.{denominatorOf}
 use borrow.Author.Needs.{needs}

@@ -1,3 +1,4 @@
+-- Byte 255 is unset; otherwise both bounds are the denominators of its two halves (contract of `denominator`).
 use borrow.Author.Tests.{eq-eqb, ne-eqb}
 use Rattle.layout.specs.Shared.Visibility.{visibilityOf}
 use Rattle.meanings.specs.Levels.{denominatorOf}
@@ -12,8 +13,7 @@ returns c = simp (eq-eqb _ _ (c .if1 .taken))
 returns-2 : tie.Need-returns-2
 unfolding visibilityOf denominatorOf
 returns-2 c =
-    let if1 = c .before .before .if1 in
-    simp (ne-eqb _ _ (if1 .left), c .before .denominator .ensures, c .denominator2 .ensures)
+    simp (ne-eqb _ _ (c .before .before .if1 .left), c .before .denominator .ensures, c .denominator2 .ensures)
 
 pub visibility-of-spec : {M : Type 1} → statement M
 visibility-of-spec =

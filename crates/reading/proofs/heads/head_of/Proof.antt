@@ -1,4 +1,4 @@
--- The call by year, at the year of the setting.
+-- This is the call by year at the year of the setting, so its equation is rewritten by what `year` gives.
 use borrow.Author.Needs.{needs}
 use Rattle.reading.proofs.heads.head_of.Statement.{statement}
 use Rattle.reading.proofs.heads.head_of.Tie as tie

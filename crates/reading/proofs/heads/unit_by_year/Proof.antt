@@ -1,3 +1,4 @@
+-- The check accepted the sheet, so the unit is that of the head read from it (`unit-right`); or the check's refusal is the answer.
 use denote.Ref.{now}
 use Rattle.reading.proofs.Laws.Seen.{seen}
 use Rattle.reading.proofs.Laws.Asked.{read, unit-right, unit-refused}
@@ -7,22 +8,22 @@ use Rattle.reading.proofs.heads.unit_by_year.Tie as tie
 
 unit-in-requires : tie.Need-unit-in-requires
 unit-in-requires c κs =
-    let start = c .before .before .before .before in
-    let check = c .before .before .check-by-year in
-    read (start .args .year) (now (start .args .s)) _ (seen _ _ _ _ (check .ensures) (c .enum-told .given .1))
+    let after-check-by-year = c .before .before in
+    let start = after-check-by-year .before .before in
+    read (start .args .year) (now (start .args .s)) _ (seen _ _ _ _ (after-check-by-year .check-by-year .ensures) (c .enum-told .given .1))
 
 returns : tie.Need-returns
 returns c =
-    let start = c .before .before .before .before .before in
-    let check = c .before .before .before .check-by-year in
-    unit-right (start .args .year) (now (start .args .s)) _ (seen _ _ _ _ (check .ensures) (c .before .enum-told .given .1)) _
+    let after-check-by-year = c .before .before .before in
+    let start = after-check-by-year .before .before in
+    unit-right (start .args .year) (now (start .args .s)) _ (seen _ _ _ _ (after-check-by-year .check-by-year .ensures) (c .before .enum-told .given .1)) _
     (c .unit-in .ensures)
 
 returns-2 : tie.Need-returns-2
 returns-2 c =
-    let start = c .before .before .before .before .before in
-    let check = c .before .before .before .check-by-year in
-    unit-refused (start .args .year) (now (start .args .s)) _ _ (check .ensures) (c .before .r .given .1)
+    let after-check-by-year = c .before .before .before in
+    let start = after-check-by-year .before .before in
+    unit-refused (start .args .year) (now (start .args .s)) _ _ (after-check-by-year .check-by-year .ensures) (c .before .r .given .1)
 
 pub unit-by-year-spec : {M : Type 1} → statement M
 unit-by-year-spec =

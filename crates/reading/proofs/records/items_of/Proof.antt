@@ -1,3 +1,4 @@
+-- Both ways are arithmetic: with too few numbers the definition's difference is 0, else it is the same division.
 use native.Mathlib.Omega.{arith}
 use Rattle.reading.proofs.records.items_of.Statement.{statement}
 use Rattle.reading.proofs.records.items_of.Tie as tie

@@ -9,19 +9,24 @@ use Rattle.reading.proofs.records.record_by_year.Tie as tie
 
 record-in-requires : tie.Need-record-in-requires
 record-in-requires c κs =
-    let start = c .before .before .before .before .before .before .args in
-    accepted-at (start .year) (now (start .s)) _ (seen _ _ _ _ (c .before .before .before .before .check-by-year .ensures) (c .before .before .sizes .given .1)) _ refl
+    let after-sizes = c .before .before in
+    let after-check-by-year = after-sizes .before .before in
+    let start = after-check-by-year .before .before in
+    accepted-at (start .args .year) (now (start .args .s)) _ (seen _ _ _ _ (after-check-by-year .check-by-year .ensures) (after-sizes .sizes .given .1)) _ refl
 
 returns : tie.Need-returns
 returns c =
-    let start = c .before .before .before .before .before .before .before .args in
-    found-right (start .year) (now (start .s)) _ (seen _ _ _ _ (c .before .before .before .before .before .check-by-year .ensures) (c .before .before .before .sizes .given .1)) _ _ _ refl
-    (c .record-in .ensures)
+    let after-sizes = c .before .before .before in
+    let after-check-by-year = after-sizes .before .before in
+    let start = after-check-by-year .before .before in
+    found-right (start .args .year) (now (start .args .s)) _ (seen _ _ _ _ (after-check-by-year .check-by-year .ensures) (after-sizes .sizes .given .1)) _ _ _
+    refl (c .record-in .ensures)
 
 returns-2 : tie.Need-returns-2
 returns-2 c =
-    let start = c .before .before .before .before .before .args in
-    found-refused (start .year) (now (start .s)) _ _ (c .before .before .before .check-by-year .ensures) (c .before .r .given .1) (start .number)
+    let after-check-by-year = c .before .before .before in
+    let start = after-check-by-year .before .before in
+    found-refused (start .args .year) (now (start .args .s)) _ _ (after-check-by-year .check-by-year .ensures) (c .before .r .given .1) (start .args .number)
 
 pub record-by-year-spec : {M : Type 1} → statement M
 record-by-year-spec =

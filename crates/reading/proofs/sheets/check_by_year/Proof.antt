@@ -8,13 +8,17 @@ use Rattle.reading.proofs.sheets.check_by_year.Tie as tie
 
 returns : tie.Need-returns
 returns c =
-    let start = c .before .before .before .before .before .before .before .args in
-    at-known (start .year) _ _ (now (start .s)) _ _ _ refl (c .before .before .before .before .before .new .ensures .0) (c .before .before .before .known .given .1) (c .before .year .ensures) (c .check .ensures)
+    let after-known = c .before .before .before in
+    let after-new = after-known .before .before in
+    let start = after-new .before .before in
+    at-known (start .args .year) _ _ (now (start .args .s)) _ _ _ refl (after-new .new .ensures .0) (after-known .known .given .1) (c .before .year .ensures)
+    (c .check .ensures)
 
 returns-2 : tie.Need-returns-2
 returns-2 c =
-    let start = c .before .before .before .before .before .args in
-    at-unknown (start .year) _ _ (now (start .s)) _ refl (c .before .before .before .new .ensures .0) (c .before .r .given .1)
+    let after-new = c .before .before .before in
+    let start = after-new .before .before in
+    at-unknown (start .args .year) _ _ (now (start .args .s)) _ refl (after-new .new .ensures .0) (c .before .r .given .1)
 
 pub check-by-year-spec : {M : Type 1} → statement M
 check-by-year-spec =

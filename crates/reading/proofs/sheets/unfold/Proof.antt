@@ -1,10 +1,12 @@
--- The call by year, at the year of the setting.
+-- This is the call by year at the year of the setting, so its four equations are rewritten by what `year` gives.
 use borrow.Author.Needs.{needs}
 use Rattle.reading.proofs.sheets.unfold.Statement.{statement}
 use Rattle.reading.proofs.sheets.unfold.Tie as tie
 
 returns : tie.Need-returns
-returns c = rw (c .before .before .before .before .before .before .before .before .before .before .year .ensures) at (c .before .before .before .before .before .before .unfold-by-year .ensures)
+returns c =
+    let after-unfold-by-year = c .before .before .before .before .before .before in
+    rw (after-unfold-by-year .before .before .before .before .year .ensures) at (after-unfold-by-year .unfold-by-year .ensures)
 
 pub unfold-spec : {M : Type 1} → statement M
 unfold-spec =

@@ -1,3 +1,4 @@
+-- Each link hands on the step so far (`_▸_`): lengths, reference bytes and counts join to the list `headerChecks`.
 use native.Mathlib.Omega.{arith}
 use Rattle.fields.proofs.Laws.Chain.{_▸_}
 use borrow.Author.Needs.{needs}
@@ -6,21 +7,19 @@ use Rattle.reading_check.proofs.headers.check_header.Tie as tie
 
 demand-requires-5 : tie.Need-demand-requires-5
 demand-requires-5 c κs =
-    let p = c .before .before .before .before .before .before .before .before .before .before .before .before .before .pre in
-    omega (arith, p)
+    omega (arith, c .before .before .before .before .before .before .before .before .before .before .before .before .before .pre)
 
 returns : tie.Need-returns
 returns c =
-    let start = c .before .before .before .before .before .before .before .before .before .before .before .before .before .before in
-    let demand = c .before .before .before .before .before .before .before .before .before .before .before .before .demand in
-    let demand2 = c .before .before .before .before .before .before .before .before .before .before .demand2 in
-    let demand3 = c .before .before .before .before .before .before .before .before .demand3 in
-    let beside = c .before .before .before .before .before .before .before .beside in
-    let demand4 = c .before .before .before .before .before .demand4 in
-    let reference-checks = c .before .before .before .before .reference-checks in
-    let feature = c .before .before .feature in
-    demand .ensures _ ▸ demand2 .ensures _ ▸ demand3 .ensures _ ▸ (rw (beside .ensures) at (demand4 .ensures (start .args .year)))
-    ▸ reference-checks .ensures ▸ feature .ensures ▸ c .demand5 .ensures _
+    let after-feature = c .before .before in
+    let after-reference-checks = after-feature .before .before in
+    let after-beside = after-reference-checks .before .before .before in
+    let after-demand2 = after-beside .before .before .before in
+    let after-demand = after-demand2 .before .before in
+    let start = after-demand .before .before in
+    after-demand .demand .ensures _ ▸ after-demand2 .demand2 .ensures _ ▸ after-beside .before .demand3 .ensures _ ▸
+    (rw (after-beside .beside .ensures) at (after-reference-checks .before .demand4 .ensures (start .args .year))) ▸
+    after-reference-checks .reference-checks .ensures ▸ after-feature .feature .ensures ▸ c .demand5 .ensures _
 
 pub check-header-spec : {M : Type 1} → statement M
 check-header-spec =

@@ -1,24 +1,21 @@
+-- Each of the nine numbers is the one that the definition reads at the same place of the header, by the contract of the call that reads it.
 use borrow.Author.Needs.{needs}
 use Rattle.reading_check.proofs.headers.read_header.Statement.{statement}
 use Rattle.reading_check.proofs.headers.read_header.Tie as tie
 
 returns : tie.Need-returns
 returns c =
-    let u32-at = c .before .before .before .before .before .before .before .before .u32-at in
-    let u32-at2 = c .before .before .before .before .before .before .before .u32-at2 in
-    let u32-at3 = c .before .before .before .before .before .before .u32-at3 in
-    let u8-at = c .before .before .before .before .before .u8-at in
-    let u8-at2 = c .before .before .before .before .u8-at2 in
-    let u8-at3 = c .before .before .before .u8-at3 in
-    let u32-at4 = c .before .before .u32-at4 in
+    let after-u32-at4 = c .before .before in
+    let after-u8-at2 = after-u32-at4 .before .before in
+    let after-u32-at3 = after-u8-at2 .before .before in
     rw (
-      u32-at .ensures,
-      u32-at2 .ensures,
-      u32-at3 .ensures,
-      u8-at .ensures,
-      u8-at2 .ensures,
-      u8-at3 .ensures,
-      u32-at4 .ensures,
+      after-u32-at3 .before .before .u32-at .ensures,
+      after-u32-at3 .before .u32-at2 .ensures,
+      after-u32-at3 .u32-at3 .ensures,
+      after-u8-at2 .before .u8-at .ensures,
+      after-u8-at2 .u8-at2 .ensures,
+      after-u32-at4 .before .u8-at3 .ensures,
+      after-u32-at4 .u32-at4 .ensures,
       c .before .u16-at .ensures,
       c .u16-at2 .ensures,
     )

@@ -1,3 +1,4 @@
+-- The loop keeps `Going`: the items left, with those behind counted in, answer what all do; each item takes a byte at least, so it ends.
 use Prim.Native.Nat.{ℕ, _≤_, _<_, _-_}
 use native.Mathlib.Omega.{arith}
 use mathlib.Core.Path.{_≡_, ap}
@@ -22,48 +23,58 @@ abbrev μ-loop : tie.MeasureT-loop
 loop-holds : tie.Need-loop-holds Inv-loop μ-loop
 loop-holds c = (omega arith, going-start _ _ _ _ _)
 
+abbrev to-start : tie.At-loop Inv-loop μ-loop → tie.Start Inv-loop μ-loop
+to-start p = p .before .before
+
+abbrev to-then1 : tie.After-item Inv-loop μ-loop → tie.Then1 Inv-loop μ-loop
+to-then1 p = p .before .before
+
+abbrev to-loop : tie.After-item Inv-loop μ-loop → tie.At-loop Inv-loop μ-loop
+to-loop p = to-then1 p .before .before
+
 sum-requires : tie.Need-sum-requires Inv-loop μ-loop
 sum-requires c κs =
-    let start = c .before .before .before .before .before .before .before .before .before in
-    let loop = c .before .before .before .before .before .before .before .loop in
-    let item = c .before .before .before .item in
-    sum-ok (now (start .args .xs)) _ (loop .inv .0) (item .result) (item .ensures .1) _ (c .before .z .given .1) (omega arith)
+    let after-item = c .before .before .before in
+    let start = to-start (to-loop after-item) in
+    sum-ok (now (start .args .xs)) _ (to-loop after-item .loop .inv .0) (after-item .item .result) (after-item .item .ensures .1) _ (c .before .z .given .1)
+    (omega arith)
 
 loop-less : tie.Need-loop-less Inv-loop μ-loop
 loop-less c =
-    let start = c .before .before .before .before .before .before .before .before .before .before in
-    let loop = c .before .before .before .before .before .before .before .before .loop in
-    let if1 = c .before .before .before .before .before .before .if1 in
-    let item = c .before .before .before .before .item in
-    let z = c .before .before .z in
-    let l = going-less _ _ _ _ _ (item-sized _) _ (loop .inv .1) (if1 .taken) (item .result) (item .ensures .0) _ (z .given .1) in
-    let w = rest-within _ _ (now (start .args .xs)) (item .result) (item .ensures .1) _ (z .given .1) in
+    let after-z = c .before .before in
+    let after-item = after-z .before .before in
+    let start = to-start (to-loop after-item) in
+    let l = going-less _ _ _ _ _ (item-sized _) _ (to-loop after-item .loop .inv .1) (to-then1 after-item .if1 .taken) (after-item .item .result)
+    (after-item .item .ensures .0) _ (after-z .z .given .1) in
+    let w = rest-within _ _ (now (start .args .xs)) (after-item .item .result) (after-item .item .ensures .1) _ (after-z .z .given .1) in
     rw (c .sum .ensures) (omega (arith, l, w))
 
 loop-again : tie.Need-loop-again Inv-loop μ-loop
 loop-again c =
-    let start = c .before .before .before .before .before .before .before .before .before .before in
-    let loop = c .before .before .before .before .before .before .before .before .loop in
-    let if1 = c .before .before .before .before .before .before .if1 in
-    let item = c .before .before .before .before .item in
-    let z = c .before .before .z in (
-      within-turn (now (start .args .xs)) _ (loop .inv .0) (item .result) (item .ensures .1) _ (z .given .1) _ (c .sum .ensures),
-      going-turn _ _ _ _ _ (item-sized _) _ (loop .inv .1) (if1 .taken) (item .result) (item .ensures .0) _ (z .given .1) _ (c .sum .ensures),
+    let after-z = c .before .before in
+    let after-item = after-z .before .before in
+    let at-loop = to-loop after-item in
+    let start = to-start at-loop in (
+      within-turn (now (start .args .xs)) _ (at-loop .loop .inv .0) (after-item .item .result) (after-item .item .ensures .1) _ (after-z .z .given .1) _
+          (c .sum .ensures),
+      going-turn _ _ _ _ _ (item-sized _) _ (at-loop .loop .inv .1) (to-then1 after-item .if1 .taken) (after-item .item .result) (after-item .item .ensures .0)
+          _ (after-z .z .given .1) _ (c .sum .ensures),
     )
 
 returns : tie.Need-returns Inv-loop μ-loop
 returns c =
-    let loop = c .before .before .before .before .before .before .before .loop in
-    let if1 = c .before .before .before .before .before .if1 in
-    let item = c .before .before .before .item in
-    (going-stop _ _ _ _ _ (item-sized _) _ (loop .inv .1) (if1 .taken) (item .result) (item .ensures .0) _ (c .before .r .given .1), tt)
+    let after-item = c .before .before .before in (
+      going-stop _ _ _ _ _ (item-sized _) _ (to-loop after-item .loop .inv .1) (to-then1 after-item .if1 .taken) (after-item .item .result)
+          (after-item .item .ensures .0) _ (c .before .r .given .1),
+      tt,
+    )
 
 returns-2 : tie.Need-returns-2 Inv-loop μ-loop
 returns-2 c =
-    let start = c .before .before .before .before in
-    let loop = c .before .before .loop in
-    let e : loop .acc .used ≡ length (now (start .args .xs)) = omega arith in
-    (going-done _ _ _ _ _ _ (loop .inv .1) e, loop .inv .0)
+    let at-loop = c .before .before in
+    let start = to-start at-loop in
+    let e : at-loop .loop .acc .used ≡ length (now (start .args .xs)) = omega arith in
+    (going-done _ _ _ _ _ _ (at-loop .loop .inv .1) e, at-loop .loop .inv .0)
 
 pub items-spec : {M : Type 1} → statement M
 items-spec =

@@ -1,3 +1,4 @@
+-- Each link hands on the step so far (`_▸_`), so the four calls are the list `shapeChecks`.
 use Rattle.fields.proofs.Laws.Chain.{_▸_}
 use borrow.Author.Needs.{needs}
 use Rattle.reading_check.proofs.items.shape_checks.Statement.{statement}
@@ -5,10 +6,8 @@ use Rattle.reading_check.proofs.items.shape_checks.Tie as tie
 
 returns : tie.Need-returns
 returns c =
-    let demand = c .before .before .before .before .demand in
-    let feature = c .before .before .before .feature in
-    let demand2 = c .before .before .demand2 in
-    demand .ensures _ ▸ feature .ensures ▸ demand2 .ensures _ ▸ c .demand3 .ensures _
+    let after-demand2 = c .before .before in
+    after-demand2 .before .before .demand .ensures _ ▸ after-demand2 .before .feature .ensures ▸ after-demand2 .demand2 .ensures _ ▸ c .demand3 .ensures _
 
 pub shape-checks-spec : {M : Type 1} → statement M
 shape-checks-spec =

@@ -1,3 +1,4 @@
+-- Six cases by the tests on the type, the same and in the same order as in `kindOf`; the bounds on place, size and zeros hold in each.
 use native.Mathlib.Omega.{arith}
 use borrow.Author.Tests.{eq-eqb, ne-eqb}
 use borrow.Author.Needs.{needs}
@@ -9,22 +10,25 @@ returns c = rw (c .plain .ensures) (simp (c .before .if1 .taken), omega arith, o
 
 returns-2 : tie.Need-returns-2
 returns-2 c =
-    let if1 = c .before .before .if1 in
-    rw (c .plain2 .ensures) (simp (if1 .left, eq-eqb _ _ (c .before .if2 .taken)), omega arith, omega arith, omega arith, omega arith)
+    rw (c .plain2 .ensures) (simp (c .before .before .if1 .left, eq-eqb _ _ (c .before .if2 .taken)), omega arith, omega arith, omega arith, omega arith)
 
 returns-3 : tie.Need-returns-3
 returns-3 c =
-    let if1 = c .before .before .before .if1 in
-    let if2 = c .before .before .if2 in
-    rw (c .plain3 .ensures) (simp (if1 .left, ne-eqb _ _ (if2 .left), c .before .if3 .taken), omega arith, omega arith, omega arith, omega arith)
+    let then3 = c .before in
+    rw (c .plain3 .ensures) (
+      simp (then3 .before .before .if1 .left, ne-eqb _ _ (then3 .before .if2 .left), then3 .if3 .taken),
+      omega arith,
+      omega arith,
+      omega
+          arith,
+      omega arith,
+    )
 
 returns-4 : tie.Need-returns-4
 returns-4 c =
-    let if1 = c .before .before .before .before .if1 in
-    let if2 = c .before .before .before .if2 in
-    let if3 = c .before .before .if3 in
+    let else3 = c .before .before in
     rw (c .plain4 .ensures) (
-      simp (if1 .left, ne-eqb _ _ (if2 .left), if3 .left, eq-eqb _ _ (c .before .if4 .taken)),
+      simp (else3 .before .before .if1 .left, ne-eqb _ _ (else3 .before .if2 .left), else3 .if3 .left, eq-eqb _ _ (c .before .if4 .taken)),
       omega arith,
       omega arith,
       omega arith,
@@ -33,10 +37,15 @@ returns-4 c =
 
 returns-5 : tie.Need-returns-5
 returns-5 c =
-    let if1 = c .before .before .before .before .if1 in
-    let if2 = c .before .before .before .if2 in
-    let if3 = c .before .before .if3 in (
-      simp (if1 .left, ne-eqb _ _ (if2 .left), if3 .left, ne-eqb _ _ (c .before .if4 .left), eq-eqb _ _ (c .if5 .taken)),
+    let else3 = c .before .before in (
+      simp (
+        else3 .before .before .if1 .left,
+        ne-eqb _ _ (else3 .before .if2 .left),
+        else3 .if3 .left,
+        ne-eqb _ _ (c .before .if4 .left),
+        eq-eqb _ _
+            (c .if5 .taken),
+      ),
       omega arith,
       omega arith,
       omega arith,
@@ -45,10 +54,15 @@ returns-5 c =
 
 returns-6 : tie.Need-returns-6
 returns-6 c =
-    let if1 = c .before .before .before .before .if1 in
-    let if2 = c .before .before .before .if2 in
-    let if3 = c .before .before .if3 in (
-      simp (if1 .left, ne-eqb _ _ (if2 .left), if3 .left, ne-eqb _ _ (c .before .if4 .left), ne-eqb _ _ (c .if5 .left)),
+    let else3 = c .before .before in (
+      simp (
+        else3 .before .before .if1 .left,
+        ne-eqb _ _ (else3 .before .if2 .left),
+        else3 .if3 .left,
+        ne-eqb _ _ (c .before .if4 .left),
+        ne-eqb _ _
+            (c .if5 .left),
+      ),
       omega arith,
       omega arith,
       omega arith,

@@ -1,3 +1,4 @@
+-- A long value's size stands before the value (`size-stated`), where there are bytes for it (`long-there`); any other follows from the type.
 use native.Mathlib.Omega.{arith}
 use Rattle.reading_check.proofs.Laws.Items.{long-there, size-stated, size-known}
 use denote.Ref.{now}

@@ -1,3 +1,4 @@
+-- The points do not fit (`part-short`), or the answer of the text is counted with them (`part-then`); no point has more elements than bytes.
 use mathlib.Core.Path.{refl, sym, _∙_}
 use denote.Ref.{now}
 use native.Mathlib.Omega.{arith}
@@ -9,50 +10,54 @@ use Rattle.reading_check.proofs.parts.part.Statement.{statement}
 use Rattle.reading_check.proofs.parts.part.Tie as tie
 use Rattle.fields.proofs.Laws.Widths.{product-fits}
 
+abbrev to-start : tie.After-point-size → tie.Start
+to-start p = p .before .before .before
+
+abbrev to-else1 : tie.After-text-end → tie.Else1
+to-else1 p = p .before .before .before
+
 mul-size : tie.Need-mul-size
 mul-size c =
-    let start = c .before .before .before in
+    let start = to-start c in
     record { fits = omega (arith, product-fits _ _ (start .pre .1) (c .point-size .ensures .1)) }
 
 returns : tie.Need-returns
 returns c =
-    let shape-of = c .before .before .shape-of in
-    (λ y. part-short y _ _ _ _ _ _ (shape-of .ensures) _ (c .before .point-size .ensures .0) refl (c .if1 .taken), tt)
+    (λ y. part-short y _ _ _ _ _ _ (c .before .before .shape-of .ensures) _ (c .before .point-size .ensures .0) refl (c .if1 .taken), tt)
 
 add-t21 : tie.Need-add-t21
 add-t21 c =
-    let start = c .before .before .before .before .before .before .before .before .before .before .before in
-    let text-end = c .before .before .before .before .text-end in
-    let t = c .before .before .t in
-    let w = rest-within _ _ (now (start .args .xs)) (text-end .result) (text-end .ensures .1) _ (t .given .1) in
+    let after-t = c .before .before in
+    let after-text-end = after-t .before .before in
+    let start = to-start (to-else1 after-text-end .before) in
+    let w = rest-within _ _ (now (start .args .xs)) (after-text-end .text-end .result) (after-text-end .text-end .ensures .1) _ (after-t .t .given .1) in
     omega (arith, w)
 
 returns-2 : tie.Need-returns-2
 returns-2 c =
-    let start = c .before .before .before .before .before .before .before .before .before .before .before in
-    let shape-of = c .before .before .before .before .before .before .before .before .before .shape-of in
-    let point = c .before .before .before .before .before .before .before .before .point-size .ensures .0 in
-    let if1 = c .before .before .before .before .before .before .before .if1 in
-    let elements = c .before .before .before .before .before .before .elements-of .ensures .0 in
-    let text-end = c .before .before .before .before .text-end in
-    let t = c .before .before .t in
-    let w = rest-within _ _ (now (start .args .xs)) (text-end .result) (text-end .ensures .1) _ (t .given .1) in
-    let is = shape-of .ensures in
-    let b = elements-within (shape-of .result) (start .args .count) _ _ point elements in (
-      λ y. part-then y _ _ _ _ _ _ is _ point refl (if1 .left) _ elements (Fine (t .given .0 .0)) (sym (t .given .1) ∙ text-end .ensures .0 y),
+    let after-t = c .before .before in
+    let after-text-end = after-t .before .before in
+    let after-point-size = to-else1 after-text-end .before in
+    let after-shape-of = after-point-size .before in
+    let start = to-start after-point-size in
+    let point = after-point-size .point-size .ensures .0 in
+    let elements = after-text-end .before .before .elements-of .ensures .0 in
+    let w = rest-within _ _ (now (start .args .xs)) (after-text-end .text-end .result) (after-text-end .text-end .ensures .1) _ (after-t .t .given .1) in
+    let is = after-shape-of .shape-of .ensures in
+    let b = elements-within (after-shape-of .shape-of .result) (start .args .count) _ _ point elements in (
+      λ y. part-then y _ _ _ _ _ _ is _ point refl (to-else1 after-text-end .if1 .left) _ elements (Fine (after-t .t .given .0 .0))
+          (sym (after-t .t .given .1) ∙ after-text-end .text-end .ensures .0 y),
       omega (arith, w, b),
     )
 
 returns-3 : tie.Need-returns-3
 returns-3 c =
-    let shape-of = c .before .before .before .before .before .before .before .before .shape-of in
-    let point-size = c .before .before .before .before .before .before .before .point-size in
-    let if1 = c .before .before .before .before .before .before .if1 in
-    let elements-of = c .before .before .before .before .before .elements-of in
-    let text-end = c .before .before .before .text-end in
-    let r = c .before .r in (
-      λ y. part-then y _ _ _ _ _ _ (shape-of .ensures) _ (point-size .ensures .0) refl (if1 .left) _ (elements-of .ensures .0)
-          (Refused (r .given .0 .0)) (sym (r .given .1) ∙ text-end .ensures .0 y),
+    let after-r = c .before in
+    let after-text-end = after-r .before .before in
+    let after-point-size = to-else1 after-text-end .before in (
+      λ y. part-then y _ _ _ _ _ _ (after-point-size .before .shape-of .ensures) _ (after-point-size .point-size .ensures .0) refl
+          (to-else1 after-text-end .if1 .left) _ (after-text-end .before .before .elements-of .ensures .0) (Refused (after-r .r .given .0 .0))
+          (sym (after-r .r .given .1) ∙ after-text-end .text-end .ensures .0 y),
       tt,
     )
 

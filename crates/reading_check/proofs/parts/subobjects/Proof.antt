@@ -1,3 +1,4 @@
+-- The loop keeps `Same`: the subobjects left, with the counts of those behind added, answer what all n do; one subobject a turn.
 use Prim.Native.Nat.{ℕ, _≤_, _<_}
 use native.Mathlib.Omega.{arith}
 use denote.Ref.{now}
@@ -11,7 +12,8 @@ use Rattle.reading_check.proofs.parts.subobjects.Statement.{statement}
 use Rattle.reading_check.proofs.parts.subobjects.Tie as tie
 
 abbrev Inv-loop : tie.InvT-loop
-Inv-loop xs p n marked b20 b21 b22 left₀ acc₀ left acc = WithinT (length xs) 0 acc × ((y : ℕ) → Same flattenPart (subobjectWalk (record { byte20 = b20; byte21 = b21; byte22 = b22 }) marked) n p xs y left acc)
+Inv-loop xs p n marked b20 b21 b22 left₀ acc₀ left acc = WithinT (length xs) 0 acc ×
+    ((y : ℕ) → Same flattenPart (subobjectWalk (record { byte20 = b20; byte21 = b21; byte22 = b22 }) marked) n p xs y left acc)
 
 abbrev μ-loop : tie.MeasureT-loop
 μ-loop xs p n marked b20 b21 b22 left₀ acc₀ left acc = left
@@ -19,33 +21,40 @@ abbrev μ-loop : tie.MeasureT-loop
 loop-holds : tie.Need-loop-holds Inv-loop μ-loop
 loop-holds c = (omega arith, λ y. same-start _ _ _ _ _ y)
 
+abbrev to-loop : tie.After-subobject Inv-loop μ-loop → tie.At-loop Inv-loop μ-loop
+to-loop p = p .before .before .before
+
 sum-requires : tie.Need-sum-requires Inv-loop μ-loop
 sum-requires c κs =
-    let start = c .before .before .before .before .before .before .before .before in
-    let loop = c .before .before .before .before .before .before .loop in
-    let subobject = c .before .before .before .subobject in
-    sum-ok (now (start .args .xs)) _ (loop .inv .0) (subobject .result) (subobject .ensures .1) _ (c .before .z .given .1) (omega arith)
+    let after-subobject = c .before .before .before in
+    let start = to-loop after-subobject .before .before in
+    sum-ok (now (start .args .xs)) _ (to-loop after-subobject .loop .inv .0) (after-subobject .subobject .result) (after-subobject .subobject .ensures .1) _
+    (c .before .z .given .1) (omega arith)
 
 returns : tie.Need-returns Inv-loop μ-loop
 returns c =
-    let loop = c .before .before .before .before .before .before .loop in
-    let subobject = c .before .before .before .subobject in
-    (λ y. same-stop _ _ _ _ _ y _ _ (loop .inv .1 y) (omega arith) (subobject .result) (subobject .ensures .0 y) _ (c .before .r .given .1), tt)
+    let after-subobject = c .before .before .before in (
+      λ y. same-stop _ _ _ _ _ y _ _ (to-loop after-subobject .loop .inv .1 y) (omega arith) (after-subobject .subobject .result)
+          (after-subobject .subobject .ensures .0 y) _ (c .before .r .given .1),
+      tt,
+    )
 
 loop-again : tie.Need-loop-again Inv-loop μ-loop
 loop-again c =
-    let start = c .before .before .before .before .before .before .before .before .before in
-    let loop = c .before .before .before .before .before .before .before .loop in
-    let subobject = c .before .before .before .before .subobject in
-    let z = c .before .before .z in (
-      within-turn (now (start .args .xs)) _ (loop .inv .0) (subobject .result) (subobject .ensures .1) _ (z .given .1) _ (c .sum .ensures),
-      λ y. same-turn _ _ _ _ _ y _ _ (loop .inv .1 y) (omega arith) (subobject .result) (subobject .ensures .0 y) _ (z .given .1) _ (c .sum .ensures),
+    let after-z = c .before .before in
+    let after-subobject = after-z .before .before in
+    let at-loop = to-loop after-subobject in
+    let start = at-loop .before .before in (
+      within-turn (now (start .args .xs)) _ (at-loop .loop .inv .0) (after-subobject .subobject .result) (after-subobject .subobject .ensures .1) _
+          (after-z .z .given .1) _ (c .sum .ensures),
+      λ y. same-turn _ _ _ _ _ y _ _ (at-loop .loop .inv .1 y) (omega arith) (after-subobject .subobject .result) (after-subobject .subobject .ensures .0 y) _
+          (after-z .z .given .1) _ (c .sum .ensures),
     )
 
 returns-2 : tie.Need-returns-2 Inv-loop μ-loop
 returns-2 c =
-    let loop = c .before .loop in
-    (λ y. same-done _ _ _ _ _ y _ _ (loop .inv .1 y) (omega arith), loop .inv .0)
+    let at-loop = c .before in
+    (λ y. same-done _ _ _ _ _ y _ _ (at-loop .loop .inv .1 y) (omega arith), at-loop .loop .inv .0)
 
 pub subobjects-spec : {M : Type 1} → statement M
 subobjects-spec =

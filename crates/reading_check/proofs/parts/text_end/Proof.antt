@@ -1,3 +1,4 @@
+-- Two cases by the bit for text: the contract of `text_of`, or no text, which takes and counts nothing (`text-none`).
 use native.Mathlib.Omega.{arith}
 use Rattle.reading_check.proofs.Laws.Texts.{text-none}
 use borrow.Author.Needs.{needs}

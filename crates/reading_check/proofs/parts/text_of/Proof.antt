@@ -1,3 +1,4 @@
+-- Three answers: too few bytes for the length byte or for the text (`text-short`), a closing zero (`text-fine`), or another byte (`text-open`).
 use mathlib.Core.Path.{refl}
 use native.Mathlib.Omega.{arith}
 use Rattle.reading_check.proofs.Laws.Texts.{text-short, text-fine, text-open}
@@ -13,13 +14,11 @@ returns-2 c = (λ y. text-short y _ _ _ (c .before .u8-at .ensures) (omega arith
 
 returns-3 : tie.Need-returns-3
 returns-3 c =
-    let u8-at = c .before .before .before .u8-at in
-    (λ y. text-fine y _ _ _ (u8-at .ensures) (omega arith) (search needs), omega arith)
+    (λ y. text-fine y _ _ _ (c .before .before .before .u8-at .ensures) (omega arith) (search needs), omega arith)
 
 returns-4 : tie.Need-returns-4
 returns-4 c =
-    let u8-at = c .before .before .before .u8-at in
-    (λ y. text-open y _ _ _ (u8-at .ensures) (omega arith) (search needs) _ (omega arith), tt)
+    (λ y. text-open y _ _ _ (c .before .before .before .u8-at .ensures) (omega arith) (search needs) _ (omega arith), tt)
 
 pub text-of-spec : {M : Type 1} → statement M
 text-of-spec =

@@ -1,3 +1,4 @@
+-- The loop keeps `Same`: the records left, with the counts of those behind added, answer what all n do; one record a turn.
 use Prim.Native.Nat.{ℕ, _≤_, _<_}
 use native.Mathlib.Omega.{arith}
 use denote.Ref.{now}
@@ -19,33 +20,40 @@ abbrev μ-loop : tie.MeasureT-loop
 loop-holds : tie.Need-loop-holds Inv-loop μ-loop
 loop-holds c = (omega arith, same-start _ _ _ _ _ _)
 
+abbrev to-loop : tie.After-one-record Inv-loop μ-loop → tie.At-loop Inv-loop μ-loop
+to-loop p = p .before .before .before
+
 sum-requires : tie.Need-sum-requires Inv-loop μ-loop
 sum-requires c κs =
-    let start = c .before .before .before .before .before .before .before .before in
-    let loop = c .before .before .before .before .before .before .loop in
-    let one-record = c .before .before .before .one-record in
-    sum-ok (now (start .args .xs)) _ (loop .inv .0) (one-record .result) (one-record .ensures .1) _ (c .before .z .given .1) (omega arith)
+    let after-one-record = c .before .before .before in
+    let start = to-loop after-one-record .before .before in
+    sum-ok (now (start .args .xs)) _ (to-loop after-one-record .loop .inv .0) (after-one-record .one-record .result) (after-one-record .one-record .ensures .1)
+    _ (c .before .z .given .1) (omega arith)
 
 returns : tie.Need-returns Inv-loop μ-loop
 returns c =
-    let loop = c .before .before .before .before .before .before .loop in
-    let one-record = c .before .before .before .one-record in
-    (same-stop _ _ _ _ _ _ _ _ (loop .inv .1) (omega arith) (one-record .result) (one-record .ensures .0) _ (c .before .r .given .1), tt)
+    let after-one-record = c .before .before .before in (
+      same-stop _ _ _ _ _ _ _ _ (to-loop after-one-record .loop .inv .1) (omega arith) (after-one-record .one-record .result)
+          (after-one-record .one-record .ensures .0) _ (c .before .r .given .1),
+      tt,
+    )
 
 loop-again : tie.Need-loop-again Inv-loop μ-loop
 loop-again c =
-    let start = c .before .before .before .before .before .before .before .before .before in
-    let loop = c .before .before .before .before .before .before .before .loop in
-    let one-record = c .before .before .before .before .one-record in
-    let z = c .before .before .z in (
-      within-turn (now (start .args .xs)) _ (loop .inv .0) (one-record .result) (one-record .ensures .1) _ (z .given .1) _ (c .sum .ensures),
-      same-turn _ _ _ _ _ _ _ _ (loop .inv .1) (omega arith) (one-record .result) (one-record .ensures .0) _ (z .given .1) _ (c .sum .ensures),
+    let after-z = c .before .before in
+    let after-one-record = after-z .before .before in
+    let at-loop = to-loop after-one-record in
+    let start = at-loop .before .before in (
+      within-turn (now (start .args .xs)) _ (at-loop .loop .inv .0) (after-one-record .one-record .result) (after-one-record .one-record .ensures .1) _
+          (after-z .z .given .1) _ (c .sum .ensures),
+      same-turn _ _ _ _ _ _ _ _ (at-loop .loop .inv .1) (omega arith) (after-one-record .one-record .result) (after-one-record .one-record .ensures .0) _
+          (after-z .z .given .1) _ (c .sum .ensures),
     )
 
 returns-2 : tie.Need-returns-2 Inv-loop μ-loop
 returns-2 c =
-    let loop = c .before .loop in
-    (same-done _ _ _ _ _ _ _ _ (loop .inv .1) (omega arith), loop .inv .0)
+    let at-loop = c .before in
+    (same-done _ _ _ _ _ _ _ _ (at-loop .loop .inv .1) (omega arith), at-loop .loop .inv .0)
 
 pub records-spec : {M : Type 1} → statement M
 records-spec =

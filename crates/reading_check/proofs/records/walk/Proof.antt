@@ -1,3 +1,4 @@
+-- The loop keeps `Same` for the records and `SummedIn` for the sum that goes ahead; a turn is a batch (`batch-turn`) or its refusal (`batch-stop`).
 use Prim.Native.Nat.{ℕ, _≤_, _<_}
 use mathlib.Core.Path.{_∙_}
 use native.Mathlib.Omega.{arith}
@@ -22,36 +23,43 @@ abbrev μ-loop : tie.MeasureT-loop
 loop-holds : tie.Need-loop-holds Inv-loop μ-loop
 loop-holds c = (omega arith, same-start _ _ _ _ _ _, record { inside = omega arith; rest = omega arith; small = omega arith })
 
+abbrev to-loop : tie.After-records Inv-loop μ-loop → tie.At-loop Inv-loop μ-loop
+to-loop p = p .before .before .before .before .before
+
 sum-past-requires : tie.Need-sum-past-requires Inv-loop μ-loop
 sum-past-requires c κs =
-    let start = c .before .before .before in
-    let loop = c .before .loop in
-    (loop .inv .2, loop .inv .0 .used, start .pre .1)
+    let at-loop = c .before in
+    let start = at-loop .before .before in
+    (at-loop .loop .inv .2, at-loop .loop .inv .0 .used, start .pre .1)
 
 sum-requires : tie.Need-sum-requires Inv-loop μ-loop
 sum-requires c κs =
-    let start = c .before .before .before .before .before .before .before .before .before .before in
-    let records = c .before .before .before .records in
-    sum-ok (now (start .args .xs)) _ (c .before .before .before .before .before .before .before .before .loop .inv .0) (records .result) (records .ensures .1) _ (c .before .z .given .1) (omega arith)
+    let after-records = c .before .before .before in
+    let start = to-loop after-records .before .before in
+    sum-ok (now (start .args .xs)) _ (to-loop after-records .loop .inv .0) (after-records .records .result) (after-records .records .ensures .1) _
+    (c .before .z .given .1) (omega arith)
 
 returns : tie.Need-returns Inv-loop μ-loop
 returns c =
-    let loop = c .before .before .before .before .before .before .before .before .before .loop in
-    let batch = c .before .before .before .before .before .before .batch in
-    let records = c .before .before .before .before .records in
-    let r = c .before .before .r in
-    let stop = batch-stop _ _ _ _ _ _ _ _ (loop .inv .1) _ (batch .ensures .0) (records .result) (records .ensures .0) _ (r .given .1) in
+    let after-r = c .before .before in
+    let after-records = after-r .before .before in
+    let stop = batch-stop _ _ _ _ _ _ _ _ (to-loop after-records .loop .inv .1) _ (after-records .before .before .batch .ensures .0)
+    (after-records .records .result) (after-records .records .ensures .0) _ (after-r .r .given .1) in
     (c .with-sum .ensures .0 ∙ stop, (c .with-sum .ensures .1, c .with-sum .ensures .2))
 
 loop-again : tie.Need-loop-again Inv-loop μ-loop
 loop-again c =
-    let start = c .before .before .before .before .before .before .before .before .before .before .before in
-    let loop = c .before .before .before .before .before .before .before .before .before .loop in
-    let records = c .before .before .before .before .records in
-    let z = c .before .before .z .given .1 in (
-      within-turn (now (start .args .xs)) _ (loop .inv .0) (records .result) (records .ensures .1) _ z _ (c .sum .ensures),
-      batch-turn _ _ _ _ _ _ _ _ (loop .inv .1) _ (c .before .before .before .before .before .before .batch .ensures .0) (records .result) (records .ensures .0) _ z _ (c .sum .ensures),
-      c .before .before .before .before .before .before .before .sum-past .ensures .0,
+    let after-z = c .before .before in
+    let after-records = after-z .before .before in
+    let after-batch = after-records .before .before in
+    let at-loop = to-loop after-records in
+    let start = at-loop .before .before in
+    let z = after-z .z .given .1 in (
+      within-turn (now (start .args .xs)) _ (at-loop .loop .inv .0) (after-records .records .result) (after-records .records .ensures .1) _ z _
+          (c .sum .ensures),
+      batch-turn _ _ _ _ _ _ _ _ (at-loop .loop .inv .1) _ (after-batch .batch .ensures .0) (after-records .records .result)
+          (after-records .records .ensures .0) _ z _ (c .sum .ensures),
+      after-batch .before .sum-past .ensures .0,
     )
 
 returns-2 : tie.Need-returns-2 Inv-loop μ-loop

@@ -1,3 +1,4 @@
+-- The sum has gone past the last byte, so nothing is left to be summed (`total-end`) and it is the total of all.
 use mathlib.Core.Path.{refl}
 use native.Mathlib.Omega.{arith}
 use denote.Ref.{now}

@@ -1,3 +1,4 @@
+-- The records are refused (`sheet-stop`), leave bytes over (`sheet-left`), or fill the sheet, and the counts are its sizes (`sheet-fine`).
 use native.Mathlib.Omega.{arith}
 use mathlib.Core.Path.{sym, _∙_}
 use denote.Ref.{now}
@@ -9,15 +10,20 @@ use Rattle.laws.proofs.Base.Numbers.{all-bytes}
 
 returns : tie.Need-returns
 returns c =
-    let start = c .before .before .before .before .before in
-    sheet-left (start .args .year) (now (start .args .s)) (start .pre .0) (start .args .counted) (start .pre .1) _ (c .before .before .counted .given .1) (c .if1 .taken)
+    let after-counted = c .before .before in
+    let start = after-counted .before .before .before in
+    sheet-left (start .args .year) (now (start .args .s)) (start .pre .0) (start .args .counted) (start .pre .1) _ (after-counted .counted .given .1)
+    (c .if1 .taken)
 
 returns-2 : tie.Need-returns-2
 returns-2 c =
-    let start = c .before .before .before .before .before .before .before in
-    let bytes = all-bytes (now (start .args .s)) (λ i. omega (arith, c .before .before .before .before .before .before .shared-slice-known .given i)) in
-    sheet-fine (start .args .year) (now (start .args .s)) (start .pre .0) (start .args .counted) (start .pre .1) _ (c .before .before .before .before .counted .given .1)
-    bytes (c .before .before .if1 .left) _ (c .before .u32-at .ensures) _ (c .u32-at2 .ensures)
+    let after-u32-at = c .before in
+    let after-counted = after-u32-at .before .before .before in
+    let after-shared-slice-known = after-counted .before .before in
+    let start = after-shared-slice-known .before in
+    let bytes = all-bytes (now (start .args .s)) (λ i. omega (arith, after-shared-slice-known .shared-slice-known .given i)) in
+    sheet-fine (start .args .year) (now (start .args .s)) (start .pre .0) (start .args .counted) (start .pre .1) _ (after-counted .counted .given .1)
+    bytes (after-u32-at .before .if1 .left) _ (after-u32-at .u32-at .ensures) _ (c .u32-at2 .ensures)
 
 returns-3 : tie.Need-returns-3
 returns-3 c =

@@ -1,3 +1,4 @@
+-- Only the value of type 128 starts after a length of four bytes; that of any other type starts right after the head (`place-other`).
 use borrow.Author.Tests.{ne-eqb}
 use mathlib.Core.Path.{refl}
 use native.Mathlib.Omega.{arith}

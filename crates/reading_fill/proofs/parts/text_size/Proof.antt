@@ -1,3 +1,4 @@
+-- Two cases by the bit for text: a text takes its length byte, its bytes and a closing zero, and no text takes nothing.
 use mathlib.Core.Path.{refl}
 use native.Mathlib.Omega.{arith}
 use borrow.Author.Needs.{needs}

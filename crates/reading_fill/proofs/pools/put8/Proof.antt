@@ -1,3 +1,4 @@
+-- The loop keeps `Putting` for width 8: the elements left, written onto out as it is, give the whole; a turn reads one by `u64_at`.
 use Prim.Native.Nat.{_-_}
 use mathlib.Core.Path.{refl}
 use mathlib.Core.List.{[], _∷_}

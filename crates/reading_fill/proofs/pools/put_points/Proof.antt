@@ -1,3 +1,4 @@
+-- The loop keeps `Putting` for the widths 2, 2 and 4: the three stores of a turn are the numbers of one point (`point-turn`).
 use Rattle.fields.proofs.Laws.Put.{point-turn, Putting, put-start, put-turn, put-done}
 use Prim.Native.Nat.{_+_, _-_, _*_}
 use mathlib.Core.List.{[], _∷_}
@@ -24,13 +25,13 @@ slice-write-out-3 c = simp length-set (omega arith)
 
 loop-again : tie.Need-loop-again Inv-loop μ-loop
 loop-again c =
-    let start = c .before .before .before .before .before .before .before in
-    let loop = c .before .before .before .before .loop in
-    let u16-at = c .before .before .u16-at in
-    put-turn (2 ∷ 2 ∷ 4 ∷ []) (start .args .xs .now) (start .args .at) (start .args .n) (start .args .w) _ (loop .i) (loop .out) _ (loop .inv)
-    (omega arith)
-    (point-turn (loop .out) (start .args .xs .now) (start .args .w + 3 * loop .i) (start .args .at + 8 * loop .i) _ _ _ (u16-at .ensures)
-    (c .before .u16-at2 .ensures) (c .u32-at .ensures))
+    let after-u16-at2 = c .before in
+    let at-loop = after-u16-at2 .before .before .before in
+    let start = at-loop .before .before .before in
+    put-turn (2 ∷ 2 ∷ 4 ∷ []) (start .args .xs .now) (start .args .at) (start .args .n) (start .args .w) _ (at-loop .loop .i) (at-loop .loop .out) _
+    (at-loop .loop .inv) (omega arith)
+    (point-turn (at-loop .loop .out) (start .args .xs .now) (start .args .w + 3 * at-loop .loop .i) (start .args .at + 8 * at-loop .loop .i) _ _ _
+    (after-u16-at2 .before .u16-at .ensures) (after-u16-at2 .u16-at2 .ensures) (c .u32-at .ensures))
 
 returns : tie.Need-returns Inv-loop μ-loop
 returns c = put-done _ _ _ _ _ _ _ _ (c .before .loop .inv) (omega arith)

@@ -1,3 +1,4 @@
+-- The two stores stand next to each other, so they are one write of two numbers; the first keeps the length that the second needs.
 use native.Mathlib.Omega.{arith}
 use native.Mathlib.Numerals.{unary-clauses}
 use lib.ListN.{length-set}

@@ -1,3 +1,4 @@
+-- The eight stores stand next to each other, so they are one write of eight numbers; a store keeps the length that the next one needs.
 use native.Mathlib.Omega.{arith}
 use native.Mathlib.Numerals.{unary-clauses}
 use lib.ListN.{length-set}

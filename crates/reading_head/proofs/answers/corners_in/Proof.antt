@@ -1,3 +1,4 @@
+-- A sheet that is read has its passport's rest (`read-long`), and its head is what stands in the bytes (`read-head`): its corners are answered.
 use native.Mathlib.Omega.{arith}
 use denote.Ref.{now}
 use Rattle.reading_head.proofs.Laws.Read.{read-long, read-head}
@@ -17,9 +18,14 @@ rest-corners-requires c κs =
 
 returns : tie.Need-returns
 returns c =
-    let start = c .before .before .before .before in
-    let part = c .before .before .part in
-    λ t e. rw (read-head (now (start .args .s)) t e, c .corners-of .ensures, c .before .rest-corners .ensures, part .ensures)
+    let after-rest-corners = c .before in
+    let start = after-rest-corners .before .before .before in
+    λ t e. rw (
+      read-head (now (start .args .s)) t e,
+      c .corners-of .ensures,
+      after-rest-corners .rest-corners .ensures,
+      after-rest-corners .before .part .ensures,
+    )
 
 pub corners-in-spec : {M : Type 1} → statement M
 corners-in-spec =

@@ -1,9 +1,13 @@
+-- A sheet that is read holds every field (`read-long`), and its head is what stands in the bytes (`read-head`), so the lengths are the head's.
 use native.Mathlib.Omega.{arith}
 use denote.Ref.{now}
 use Rattle.reading_head.proofs.Laws.Read.{read-long, read-head}
 use borrow.Author.Needs.{needs}
 use Rattle.reading_head.proofs.answers.head_in.Statement.{statement}
 use Rattle.reading_head.proofs.answers.head_in.Tie as tie
+
+abbrev to-start : tie.After-text-length2 → tie.Start
+to-start p = p .before .before .before .before .before
 
 part-requires : tie.Need-part-requires
 part-requires c κs = let a = read-long _ (c .before .pre) in omega (arith, a)
@@ -16,41 +20,38 @@ part-requires-2 c κs =
 
 u32-at-requires : tie.Need-u32-at-requires
 u32-at-requires c κs =
-    let start = c .before .before .before .before .before in
+    let start = to-start c in
     let a = read-long _ (start .pre) in
     omega (arith, a)
 
 part-requires-3 : tie.Need-part-requires-3
 part-requires-3 c κs =
-    let start = c .before .before .before .before .before .before in
+    let start = to-start (c .before) in
     let a = read-long _ (start .pre) in
     omega (arith, a)
 
 part-requires-4 : tie.Need-part-requires-4
 part-requires-4 c κs =
-    let start = c .before .before .before .before .before .before .before .before in
+    let start = to-start (c .before .before .before) in
     let a = read-long _ (start .pre) in
     omega (arith, a)
 
 returns : tie.Need-returns
 returns c =
-    let start = c .before .before .before .before .before .before .before .before .before .before in
-    let part = c .before .before .before .before .before .before .before .before .part in
-    let text-length = c .before .before .before .before .before .before .before .text-length in
-    let part2 = c .before .before .before .before .before .before .part2 in
-    let text-length2 = c .before .before .before .before .before .text-length2 in
-    let u32-at = c .before .before .before .before .u32-at in
-    let part3 = c .before .before .before .part3 in
-    let text-length3 = c .before .before .text-length3 in
+    let after-text-length3 = c .before .before in
+    let after-u32-at = after-text-length3 .before .before in
+    let after-part2 = after-u32-at .before .before in
+    let after-text-length = after-part2 .before in
+    let start = after-text-length .before .before .before in
     λ t e. rw (
       read-head (now (start .args .s)) t e,
-      text-length .ensures,
-      part .ensures,
-      text-length2 .ensures,
-      part2 .ensures,
-      u32-at .ensures,
-      text-length3 .ensures,
-      part3 .ensures,
+      after-text-length .text-length .ensures,
+      after-text-length .before .part .ensures,
+      after-u32-at .before .text-length2 .ensures,
+      after-part2 .part2 .ensures,
+      after-u32-at .u32-at .ensures,
+      after-text-length3 .text-length3 .ensures,
+      after-text-length3 .before .part3 .ensures,
       c .text-length4 .ensures,
       c .before .part4 .ensures,
     )

@@ -1,23 +1,21 @@
+-- Each of the eight numbers is the one that `cornerBits` takes from the same place (contract of `u64_at`).
 use borrow.Author.Needs.{needs}
 use Rattle.reading_head.proofs.answers.rest_corners.Statement.{statement}
 use Rattle.reading_head.proofs.answers.rest_corners.Tie as tie
 
 returns : tie.Need-returns
 returns c =
-    let u64-at = c .before .before .before .before .before .before .before .u64-at in
-    let u64-at2 = c .before .before .before .before .before .before .u64-at2 in
-    let u64-at3 = c .before .before .before .before .before .u64-at3 in
-    let u64-at4 = c .before .before .before .before .u64-at4 in
-    let u64-at5 = c .before .before .before .u64-at5 in
-    let u64-at6 = c .before .before .u64-at6 in
+    let after-u64-at7 = c .before in
+    let after-u64-at5 = after-u64-at7 .before .before in
+    let after-u64-at3 = after-u64-at5 .before .before in
     rw (
-      u64-at .ensures,
-      u64-at2 .ensures,
-      u64-at3 .ensures,
-      u64-at4 .ensures,
-      u64-at5 .ensures,
-      u64-at6 .ensures,
-      c .before .u64-at7 .ensures,
+      after-u64-at3 .before .before .u64-at .ensures,
+      after-u64-at3 .before .u64-at2 .ensures,
+      after-u64-at3 .u64-at3 .ensures,
+      after-u64-at5 .before .u64-at4 .ensures,
+      after-u64-at5 .u64-at5 .ensures,
+      after-u64-at7 .before .u64-at6 .ensures,
+      after-u64-at7 .u64-at7 .ensures,
       c .u64-at8 .ensures,
     )
 

@@ -1,3 +1,4 @@
+-- A sheet that is read has its passport's rest (`read-long`), and its head is what stands in the bytes (`read-head`): its unit is answered.
 use native.Mathlib.Omega.{arith}
 use denote.Ref.{now}
 use Rattle.reading_head.proofs.Laws.Read.{read-long, read-head}

@@ -1,3 +1,4 @@
+-- Each link hands on the step so far (`_▸_`), so the seven calls are `passportChecks`; the sum compared is the sheet's by what is required.
 use Rattle.fields.proofs.Laws.Chain.{_▸_}
 use Rattle.layout.specs.Reading.Sheets.{passportChecks}
 use borrow.Author.Needs.{needs}
@@ -7,19 +8,17 @@ use Rattle.reading_head.proofs.check.check_passport.Tie as tie
 returns : tie.Need-returns
 unfolding passportChecks
 returns c =
-    let start = c .before .before .before .before .before .before .before .before in
-    let fixed = c .before .before .before .before .before .before .fixed in
-    let fixed2 = c .before .before .before .before .before .fixed2 in
-    let fixed3 = c .before .before .before .before .fixed3 in
-    let fixed4 = c .before .before .before .fixed4 in
-    let text = c .before .before .text in
+    let after-text2 = c .before in
+    let after-fixed4 = after-text2 .before .before in
+    let after-fixed2 = after-fixed4 .before .before in
+    let start = after-fixed2 .before .before .before in
     λ y.
-    fixed .ensures y
-    ▸ fixed2 .ensures y
-    ▸ fixed3 .ensures y
-    ▸ (rw (start .pre .1) at (fixed4 .ensures y))
-    ▸ text .ensures y
-    ▸ c .before .text2 .ensures y
+    after-fixed2 .before .fixed .ensures y
+    ▸ after-fixed2 .fixed2 .ensures y
+    ▸ after-fixed4 .before .fixed3 .ensures y
+    ▸ (rw (start .pre .1) at (after-fixed4 .fixed4 .ensures y))
+    ▸ after-text2 .before .text .ensures y
+    ▸ after-text2 .text2 .ensures y
     ▸ c .text3 .ensures y
 
 pub check-passport-spec : {M : Type 1} → statement M

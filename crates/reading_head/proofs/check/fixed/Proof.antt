@@ -1,3 +1,4 @@
+-- The number that is compared is the one at p (contract of `u32_at`), so the demand is the check on those four bytes.
 use borrow.Author.Needs.{needs}
 use Rattle.reading_head.proofs.check.fixed.Statement.{statement}
 use Rattle.reading_head.proofs.check.fixed.Tie as tie

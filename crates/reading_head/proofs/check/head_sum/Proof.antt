@@ -1,3 +1,4 @@
+-- The bytes before the stated sum and those after it, up to the first record, are summed; `sumOf` adds the total from there on (`total-on`).
 use mathlib.Core.Path.{ap}
 use native.Mathlib.Omega.{arith}
 use denote.Ref.{now}
@@ -8,21 +9,25 @@ use borrow.Author.Needs.{needs}
 use Rattle.reading_head.proofs.check.head_sum.Statement.{statement}
 use Rattle.reading_head.proofs.check.head_sum.Tie as tie
 
+abbrev to-start : tie.After-part → tie.Start
+to-start p = p .before .before
+
 sum-of-requires : tie.Need-sum-of-requires
-sum-of-requires c κs = rw (c .part .ensures) (omega (arith, part-length (now (c .before .before .args .s)) 0 12 (omega arith)))
+sum-of-requires c κs = rw (c .part .ensures) (omega (arith, part-length (now (to-start c .args .s)) 0 12 (omega arith)))
 
 sum-of-requires-2 : tie.Need-sum-of-requires-2
 sum-of-requires-2 c κs =
-    let start = c .before .before .before .before in
+    let start = to-start (c .before .before) in
     rw (c .part2 .ensures) (omega (arith, part-length (now (start .args .s)) 16 436 (omega arith)))
 
 -- the two parts' lengths bound their sums
 add-result : tie.Need-add-result
 add-result c =
-    let s = now (c .before .before .before .before .before .args .s) in
+    let after-part = c .before .before .before in
+    let s = now (to-start after-part .args .s) in
     omega (
       arith,
-      ap length (c .before .before .before .part .ensures),
+      ap length (after-part .part .ensures),
       ap length (c .before .part2 .ensures),
       part-length s 0 12 (omega arith),
       part-length s 16 436 (omega arith),
@@ -30,18 +35,18 @@ add-result c =
 
 returns : tie.Need-returns
 returns c =
-    let start = c .before .before .before .before .before in
-    let part = c .before .before .before .part in
-    let part2 = c .before .part2 in
+    let after-part2 = c .before in
+    let after-part = after-part2 .before .before in
+    let start = to-start after-part in
     let s = now (start .args .s) in
     omega (
       arith,
-      ap length (part .ensures),
-      ap length (part2 .ensures),
+      ap length (after-part .part .ensures),
+      ap length (after-part2 .part2 .ensures),
       part-length s 0 12 (omega arith),
       part-length s 16 436 (omega arith),
-      ap total (part .ensures),
-      ap total (part2 .ensures),
+      ap total (after-part .part .ensures),
+      ap total (after-part2 .part2 .ensures),
       total-on s 16 436,
     )
 

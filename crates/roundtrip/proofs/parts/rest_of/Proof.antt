@@ -1,3 +1,4 @@
+-- Only safety and an end are to be shown: i stays within the 304 bytes of the rest, and 304 - i gets less.
 use Prim.Native.Nat.{_≤_, _-_}
 use borrow.Author.Needs.{needs}
 use Rattle.roundtrip.proofs.parts.rest_of.Statement.{statement}

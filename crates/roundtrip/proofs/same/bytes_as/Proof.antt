@@ -1,3 +1,4 @@
+-- Only safety and an end are to be shown: i stays within the lent bytes, and those left to compare get fewer.
 use Prim.Native.Nat.{_≤_, _-_}
 use lib.ListN.{length}
 use borrow.Author.Needs.{needs}

@@ -1,3 +1,4 @@
+-- Only safety and an end are to be shown: i stays within the 8,000 elements, and 8,000 - i gets less.
 use Prim.Native.Nat.{_≤_, _-_}
 use borrow.Author.Needs.{needs}
 use Rattle.roundtrip.proofs.tables.varied.Statement.{statement}

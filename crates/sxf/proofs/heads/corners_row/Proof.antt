@@ -1,3 +1,4 @@
+-- There are three answers: doubles, whose bits are defined since `Defined` says they are numbers; bits as stored; or the refusal.
 use Prim.Native.Nat.{ℕ}
 use mathlib.Core.Path.{_≡_, refl, sym, ap, subst, _∙_}
 use Rattle.layout.specs.declared.CornerBits.{CornerBits}
@@ -25,8 +26,7 @@ by-place x d place b r q z h e = q ∙ ap (λ k. bitsRow k b) z ∙ ap (bitsRow 
 
 returns : tie.Need-returns
 returns c =
-    let the-c = c .before .before .before .c in
-    by-place _ _ _ _ _ (c .bits-row .ensures) refl (c .before .bits-of .ensures) (the-c .given .1)
+    by-place _ _ _ _ _ (c .bits-row .ensures) refl (c .before .bits-of .ensures) (c .before .before .before .c .given .1)
 
 returns-2 : tie.Need-returns-2
 unfolding cornersRow

@@ -1,3 +1,4 @@
+-- There are two answers, the head's lengths and scale or the refusal; in each the answer is known, so the definition computes to the struct.
 use mathlib.Core.Path.{sym, ap}
 use Rattle.layout.specs.Answers.Structs.{headRow}
 use borrow.Author.Needs.{needs}
@@ -11,8 +12,7 @@ returns c = sym (ap headRow (c .before .before .h .given .1))
 returns-2 : tie.Need-returns-2
 unfolding headRow
 returns-2 c =
-    let h2 = c .before .before .before .h2 in
-    sym (ap headRow (h2 .given .1))
+    sym (ap headRow (c .before .before .before .h2 .given .1))
 
 pub head-row-spec : {M : Type 1} → statement M
 head-row-spec =

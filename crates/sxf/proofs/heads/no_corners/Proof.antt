@@ -1,3 +1,4 @@
+-- The definition computes on a refusal: its three numbers, and zeros for all the rest.
 use mathlib.Core.Path.{refl}
 use Rattle.layout.specs.Answers.Structs.{cornersRow}
 use borrow.Author.Needs.{needs}

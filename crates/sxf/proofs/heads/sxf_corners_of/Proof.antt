@@ -1,4 +1,4 @@
--- The answer of the reader's call, as C holds it. Its doubles are numbers, since the reader gives bits where one is none.
+-- The answer is the reader's as C holds it; its doubles are numbers (`sheet-defined`), since the reader gives bits where one is a NaN.
 use mathlib.Core.Path.{sym, ap, subst, _∙_}
 use Rattle.layout.specs.Answers.Structs.{cornersRow}
 use Rattle.sxf.proofs.Corners.{sheet-defined}

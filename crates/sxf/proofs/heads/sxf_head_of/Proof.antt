@@ -1,4 +1,4 @@
--- The answer of the reader's call, as C holds it.
+-- The struct holds what the reader's call answered, and that answer is the definition's by its contract.
 use mathlib.Core.Path.{ap, _∙_}
 use Rattle.layout.specs.Answers.Structs.{headRow}
 use borrow.Author.Needs.{needs}

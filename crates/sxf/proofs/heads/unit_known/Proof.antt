@@ -1,3 +1,4 @@
+-- Each of the five units has the number that the definition gives it (`by-number`); only an unknown one has its byte.
 use Prim.Native.Nat.{ℕ}
 use mathlib.Core.Path.{_≡_, refl, sym, ap, _∙_}
 use Rattle.layout.specs.declared.SheetUnit.{SheetUnit}

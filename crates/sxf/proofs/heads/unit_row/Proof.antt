@@ -1,3 +1,4 @@
+-- There are two answers: a unit, which `unit_known` turns into the struct, or the refusal.
 use mathlib.Core.Path.{sym, ap, _∙_}
 use Rattle.layout.specs.Answers.Structs.{unitRow}
 use borrow.Author.Needs.{needs}
@@ -11,8 +12,7 @@ returns c = c .unit-known .ensures ∙ sym (ap unitRow (c .before .before .u .gi
 returns-2 : tie.Need-returns-2
 unfolding unitRow
 returns-2 c =
-    let u2 = c .before .before .before .u2 in
-    sym (ap unitRow (u2 .given .1))
+    sym (ap unitRow (c .before .before .before .u2 .given .1))
 
 pub unit-row-spec : {M : Type 1} → statement M
 unit-row-spec =

@@ -1,3 +1,4 @@
+-- There are two answers, eleven numbers or the refusal, and in each the definition computes; the points' width has to be said (`wider`).
 use native.Mathlib.Omega.{arith}
 use Prim.Native.Nat.{ℕ}
 use mir.Syntax.{w32, w64}
@@ -14,14 +15,12 @@ wider f = record { fits = omega (arith, f .fits) }
 returns : tie.Need-returns
 unfolding recordRow
 returns c =
-    let f = c .before .before .before .before .before .before .before .before .before .f in
-    sym (ap recordRow (f .given .1))
+    sym (ap recordRow (c .before .before .before .before .before .before .before .before .before .f .given .1))
 
 returns-2 : tie.Need-returns-2
 unfolding recordRow
 returns-2 c =
-    let f2 = c .before .before .before .f2 in
-    sym (ap recordRow (f2 .given .1))
+    sym (ap recordRow (c .before .before .before .f2 .given .1))
 
 pub record-row-spec : {M : Type 1} → statement M
 record-row-spec =

@@ -1,4 +1,4 @@
--- The answer of the reader's call, as C holds it; the slices are the reader's.
+-- The struct holds what the reader's call answered; what the three slices hold is promised by the reader in the same words.
 use mathlib.Core.Path.{ap, _∙_}
 use Rattle.layout.specs.Answers.Structs.{checkedRow}
 use borrow.Author.Needs.{needs}

@@ -1,4 +1,4 @@
--- The answer of the writer's call, as C holds it; the slice is the writer's.
+-- The struct holds what the writer's call answered; what the slice holds is promised by the writer in the same words.
 use mathlib.Core.Path.{ap, _∙_}
 use Rattle.layout.specs.Answers.Structs.{writtenRow}
 use borrow.Author.Needs.{needs}

@@ -1,3 +1,4 @@
+-- There are two answers, a length or the refusal; in each the answer is known, so the definition computes to the struct.
 use mathlib.Core.Path.{sym, ap}
 use Rattle.layout.specs.Answers.Structs.{writtenRow}
 use borrow.Author.Needs.{needs}
@@ -11,8 +12,7 @@ returns c = sym (ap writtenRow (c .before .w .given .1))
 returns-2 : tie.Need-returns-2
 unfolding writtenRow
 returns-2 c =
-    let w2 = c .before .before .before .w2 in
-    sym (ap writtenRow (w2 .given .1))
+    sym (ap writtenRow (c .before .before .before .w2 .given .1))
 
 pub written-row-spec : {M : Type 1} → statement M
 written-row-spec =

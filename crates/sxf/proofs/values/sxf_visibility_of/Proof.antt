@@ -1,3 +1,4 @@
+-- The struct holds what the call of `meanings` answered, and that answer is the definition's by its contract.
 use mathlib.Core.Path.{ap, _∙_}
 use Rattle.layout.specs.Answers.Structs.{visibilityRow}
 use borrow.Author.Needs.{needs}

@@ -1,3 +1,4 @@
+-- There are three answers: a number, whose signed parts keep their value when handed on (`number-row`); anything else; or the refusal.
 use mathlib.Core.Path.{sym, ap}
 use Rattle.sxf.proofs.Laws.Signed.{number-row}
 use Rattle.layout.specs.Answers.Structs.{valueRow}
@@ -15,8 +16,7 @@ returns-2 c = sym (ap valueRow (c .enum-told .given .1))
 returns-3 : tie.Need-returns-3
 unfolding valueRow
 returns-3 c =
-    let v2 = c .before .before .before .v2 in
-    sym (ap valueRow (v2 .given .1))
+    sym (ap valueRow (c .before .before .before .v2 .given .1))
 
 pub value-row-spec : {M : Type 1} → statement M
 value-row-spec =

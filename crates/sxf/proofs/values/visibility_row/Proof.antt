@@ -1,3 +1,4 @@
+-- There are two answers, no bounds set or both bounds; in each the answer is known, so the definition computes to the struct.
 use mathlib.Core.Path.{sym, ap}
 use Rattle.layout.specs.Answers.Structs.{visibilityRow}
 use borrow.Author.Needs.{needs}

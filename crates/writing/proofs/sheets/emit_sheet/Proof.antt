@@ -1,3 +1,4 @@
+-- `Ready` gives each of the three calls what it asks; head, records and the sum over them are the encoding of the sheet (`emitted`).
 use denote.Ref.{now}
 use mathlib.Core.Path.{refl}
 use lib.ListN.{length}
@@ -9,9 +10,15 @@ use borrow.Author.Needs.{needs}
 use Rattle.writing.proofs.sheets.emit_sheet.Statement.{statement}
 use Rattle.writing.proofs.sheets.emit_sheet.Tie as tie
 
+abbrev start-from-struct-known : tie.After-struct-known → tie.Start
+start-from-struct-known p = p .before .before .before .before .before .before .before .before .before .before .before
+
+abbrev start-from-struct-known2 : tie.After-struct-known2 → tie.Start
+start-from-struct-known2 p = start-from-struct-known (p .before .before .before .before .before .before .before .before .before .before)
+
 cast-count : tie.Need-cast-count
 cast-count c =
-    let start = c .before .before .before .before .before .before .before .before .before .before .before in
+    let start = start-from-struct-known c in
     let h = headOf (now (start .args .date)) (now (start .args .designation)) (start .args .scale) (now (start .args .title))
     (now (start .args .rest)) (now (start .args .designation2)) (now (start .args .carried)) in
     let t = table (now (start .args .table)) (now (start .args .elements)) (now (start .args .bytes)) in
@@ -20,7 +27,7 @@ cast-count c =
 
 emit-requires : tie.Need-emit-requires
 emit-requires c κs =
-    let start = c .before .before .before .before .before .before .before .before .before .before .before .before in
+    let start = start-from-struct-known (c .before) in
     let h = headOf (now (start .args .date)) (now (start .args .designation)) (start .args .scale) (now (start .args .title))
     (now (start .args .rest)) (now (start .args .designation2)) (now (start .args .carried)) in
     let t = table (now (start .args .table)) (now (start .args .elements)) (now (start .args .bytes)) in
@@ -29,7 +36,7 @@ emit-requires c κs =
 
 emit-requires-2 : tie.Need-emit-requires-2
 emit-requires-2 c κs =
-    let start = c .before .before .before .before .before .before .before .before .before .before .before .before .before .before .before .before in
+    let start = start-from-struct-known (c .before .before .before .before .before) in
     let h = headOf (now (start .args .date)) (now (start .args .designation)) (start .args .scale) (now (start .args .title))
     (now (start .args .rest)) (now (start .args .designation2)) (now (start .args .carried)) in
     let t = table (now (start .args .table)) (now (start .args .elements)) (now (start .args .bytes)) in
@@ -38,8 +45,7 @@ emit-requires-2 c κs =
 
 add-emit-sum : tie.Need-add-emit-sum
 add-emit-sum c =
-    let start = c .before .before .before .before .before .before .before .before .before .before .before .before .before .before .before
-    .before .before .before .before .before .before in
+    let start = start-from-struct-known2 c in
     let h = headOf (now (start .args .date)) (now (start .args .designation)) (start .args .scale) (now (start .args .title))
     (now (start .args .rest)) (now (start .args .designation2)) (now (start .args .carried)) in
     let t = table (now (start .args .table)) (now (start .args .elements)) (now (start .args .bytes)) in
@@ -49,8 +55,7 @@ add-emit-sum c =
 
 emit-sum-requires : tie.Need-emit-sum-requires
 emit-sum-requires c κs =
-    let start = c .before .before .before .before .before .before .before .before .before .before .before .before .before .before .before
-    .before .before .before .before .before .before in
+    let start = start-from-struct-known2 c in
     let h = headOf (now (start .args .date)) (now (start .args .designation)) (start .args .scale) (now (start .args .title))
     (now (start .args .rest)) (now (start .args .designation2)) (now (start .args .carried)) in
     let t = table (now (start .args .table)) (now (start .args .elements)) (now (start .args .bytes)) in
@@ -59,16 +64,15 @@ emit-sum-requires c κs =
 
 returns : tie.Need-returns
 returns c =
-    let start = c .before .before .before .before .before .before .before .before .before .before .before .before .before .before .before
-    .before .before .before .before .before .before .before .before .before in
-    let emit = c .before .before .before .before .before .before .before .before .before .before .before .emit in
-    let emit2 = c .before .before .before .before .before .before .before .emit2 in
-    let emit-sum = c .before .before .emit-sum in
+    let after-emit-sum = c .before .before in
+    let after-emit2 = after-emit-sum .before .before .before .before .before in
+    let start = start-from-struct-known2 (after-emit-sum .before) in
     let h = headOf (now (start .args .date)) (now (start .args .designation)) (start .args .scale) (now (start .args .title))
     (now (start .args .rest)) (now (start .args .designation2)) (now (start .args .carried)) in
     let t = table (now (start .args .table)) (now (start .args .elements)) (now (start .args .bytes)) in
     let o = now (start .args .out) in
-    emitted h t (start .args .t) (length o) (start .pre) o _ _ _ refl (emit .ensures) (emit2 .ensures) (emit-sum .ensures)
+    emitted h t (start .args .t) (length o) (start .pre) o _ _ _ refl (after-emit2 .before .before .before .before .emit .ensures) (after-emit2 .emit2 .ensures)
+    (after-emit-sum .emit-sum .ensures)
 
 pub emit-sheet-spec : {M : Type 1} → statement M
 emit-sheet-spec =

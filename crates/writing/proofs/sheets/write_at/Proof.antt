@@ -1,3 +1,4 @@
+-- Three ways out: the measure refuses, the slice is too short (`short-right`), or the sheet is `Ready` and its bytes are emitted (`written-right`).
 use denote.Ref.{now}
 use native.Mathlib.Omega.{arith}
 use Rattle.layout.specs.Answers.Lent.{headOf}
@@ -9,21 +10,38 @@ use borrow.Author.Needs.{needs}
 use Rattle.writing.proofs.sheets.write_at.Statement.{statement}
 use Rattle.writing.proofs.sheets.write_at.Tie as tie
 
+abbrev to-shared-slice-known9 : tie.After-measure → tie.After-shared-slice-known9
+to-shared-slice-known9 p = p .before .before
+
+abbrev to-shared-slice-known6 : tie.After-measure → tie.After-shared-slice-known6
+to-shared-slice-known6 p = to-shared-slice-known9 p .before .before .before
+
+abbrev to-shared-slice-known5 : tie.After-measure → tie.After-shared-slice-known5
+to-shared-slice-known5 p = to-shared-slice-known6 p .before
+
+abbrev to-shared-slice-known4 : tie.After-measure → tie.After-shared-slice-known4
+to-shared-slice-known4 p = to-shared-slice-known5 p .before
+
+abbrev to-shared-slice-known3 : tie.After-measure → tie.After-shared-slice-known3
+to-shared-slice-known3 p = to-shared-slice-known4 p .before
+
+abbrev to-shared-slice-known2 : tie.After-measure → tie.After-shared-slice-known2
+to-shared-slice-known2 p = to-shared-slice-known3 p .before
+
+abbrev to-shared-slice-known : tie.After-measure → tie.After-shared-slice-known
+to-shared-slice-known p = to-shared-slice-known2 p .before
+
+abbrev to-start : tie.After-measure → tie.Start
+to-start p = to-shared-slice-known p .before
+
+abbrev to-measure : tie.After-t → tie.After-measure
+to-measure p = p .before .before
+
 add-n : tie.Need-add-n
 add-n c =
-    let start = c .before .before .before .before .before .before .before .before .before .before .before .before .before .before .before in
-    let shared-slice-known = c .before .before .before .before .before .before .before .before .before .before .before .before .before .before
-    .shared-slice-known in
-    let shared-slice-known2 = c .before .before .before .before .before .before .before .before .before .before .before .before .before
-    .shared-slice-known2 in
-    let shared-slice-known3 = c .before .before .before .before .before .before .before .before .before .before .before .before
-    .shared-slice-known3 in
-    let shared-slice-known4 = c .before .before .before .before .before .before .before .before .before .before .before .shared-slice-known4 in
-    let shared-slice-known5 = c .before .before .before .before .before .before .before .before .before .before .shared-slice-known5 in
-    let shared-slice-known6 = c .before .before .before .before .before .before .before .before .before .shared-slice-known6 in
-    let shared-slice-known9 = c .before .before .before .before .before .before .shared-slice-known9 in
-    let measure = c .before .before .before .before .measure in
-    let the-t = c .before .before .t in
+    let after-t = c .before .before in
+    let after-measure = to-measure after-t in
+    let start = to-start after-measure in
     let date = now (start .args .date) in
     let designation = now (start .args .designation) in
     let scale = start .args .scale in
@@ -34,34 +52,23 @@ add-n c =
     let h = headOf date designation scale title rest designation2 carried in
     let t = table (now (start .args .table)) (now (start .args .elements)) (now (start .args .bytes)) in
     let o = now (start .args .out) in
-    let means = measure .ensures scale (omega arith) in
+    let means = after-measure .measure .ensures scale (omega arith) in
     let typed = typed-head date designation scale title rest designation2 carried
-    (all-bytes date (λ i. omega (arith, shared-slice-known .given i)))
-    (all-bytes designation (λ i. omega (arith, shared-slice-known2 .given i)))
+    (all-bytes date (λ i. omega (arith, to-shared-slice-known after-measure .shared-slice-known .given i)))
+    (all-bytes designation (λ i. omega (arith, to-shared-slice-known2 after-measure .shared-slice-known2 .given i)))
     (omega arith)
-    (all-bytes title (λ i. omega (arith, shared-slice-known3 .given i)))
-    (start .pre .0, all-bytes rest (λ i. omega (arith, shared-slice-known4 .given i)))
-    (all-bytes designation2 (λ i. omega (arith, shared-slice-known5 .given i)))
-    (start .pre .1, all-bytes carried (λ i. omega (arith, shared-slice-known6 .given i))) in
-    let bs = all-bytes (now (start .args .bytes)) (λ i. omega (arith, shared-slice-known9 .given i)) in
-    omega (arith, within (start .args .year) h t o (measure .result) means typed bs _ (the-t .given .1))
+    (all-bytes title (λ i. omega (arith, to-shared-slice-known3 after-measure .shared-slice-known3 .given i)))
+    (start .pre .0, all-bytes rest (λ i. omega (arith, to-shared-slice-known4 after-measure .shared-slice-known4 .given i)))
+    (all-bytes designation2 (λ i. omega (arith, to-shared-slice-known5 after-measure .shared-slice-known5 .given i)))
+    (start .pre .1, all-bytes carried (λ i. omega (arith, to-shared-slice-known6 after-measure .shared-slice-known6 .given i))) in
+    let bs = all-bytes (now (start .args .bytes)) (λ i. omega (arith, to-shared-slice-known9 after-measure .shared-slice-known9 .given i)) in
+    omega (arith, within (start .args .year) h t o (after-measure .measure .result) means typed bs _ (after-t .t .given .1))
 
 returns : tie.Need-returns
 returns c =
-    let start = c .before .before .before .before .before .before .before .before .before .before .before .before .before .before .before .before in
-    let shared-slice-known = c .before .before .before .before .before .before .before .before .before .before .before .before .before .before
-    .before .shared-slice-known in
-    let shared-slice-known2 = c .before .before .before .before .before .before .before .before .before .before .before .before .before .before
-    .shared-slice-known2 in
-    let shared-slice-known3 = c .before .before .before .before .before .before .before .before .before .before .before .before .before
-    .shared-slice-known3 in
-    let shared-slice-known4 = c .before .before .before .before .before .before .before .before .before .before .before .before
-    .shared-slice-known4 in
-    let shared-slice-known5 = c .before .before .before .before .before .before .before .before .before .before .before .shared-slice-known5 in
-    let shared-slice-known6 = c .before .before .before .before .before .before .before .before .before .before .shared-slice-known6 in
-    let shared-slice-known9 = c .before .before .before .before .before .before .before .shared-slice-known9 in
-    let measure = c .before .before .before .before .before .measure in
-    let the-t = c .before .before .before .t in
+    let after-t = c .before .before .before in
+    let after-measure = to-measure after-t in
+    let start = to-start after-measure in
     let date = now (start .args .date) in
     let designation = now (start .args .designation) in
     let scale = start .args .scale in
@@ -72,36 +79,23 @@ returns c =
     let h = headOf date designation scale title rest designation2 carried in
     let t = table (now (start .args .table)) (now (start .args .elements)) (now (start .args .bytes)) in
     let o = now (start .args .out) in
-    let means = measure .ensures scale (omega arith) in
+    let means = after-measure .measure .ensures scale (omega arith) in
     let typed = typed-head date designation scale title rest designation2 carried
-    (all-bytes date (λ i. omega (arith, shared-slice-known .given i)))
-    (all-bytes designation (λ i. omega (arith, shared-slice-known2 .given i)))
+    (all-bytes date (λ i. omega (arith, to-shared-slice-known after-measure .shared-slice-known .given i)))
+    (all-bytes designation (λ i. omega (arith, to-shared-slice-known2 after-measure .shared-slice-known2 .given i)))
     (omega arith)
-    (all-bytes title (λ i. omega (arith, shared-slice-known3 .given i)))
-    (start .pre .0, all-bytes rest (λ i. omega (arith, shared-slice-known4 .given i)))
-    (all-bytes designation2 (λ i. omega (arith, shared-slice-known5 .given i)))
-    (start .pre .1, all-bytes carried (λ i. omega (arith, shared-slice-known6 .given i))) in
-    let bs = all-bytes (now (start .args .bytes)) (λ i. omega (arith, shared-slice-known9 .given i)) in
-    short-right (start .args .year) h t o (measure .result) means typed bs _ (the-t .given .1) (omega arith)
+    (all-bytes title (λ i. omega (arith, to-shared-slice-known3 after-measure .shared-slice-known3 .given i)))
+    (start .pre .0, all-bytes rest (λ i. omega (arith, to-shared-slice-known4 after-measure .shared-slice-known4 .given i)))
+    (all-bytes designation2 (λ i. omega (arith, to-shared-slice-known5 after-measure .shared-slice-known5 .given i)))
+    (start .pre .1, all-bytes carried (λ i. omega (arith, to-shared-slice-known6 after-measure .shared-slice-known6 .given i))) in
+    let bs = all-bytes (now (start .args .bytes)) (λ i. omega (arith, to-shared-slice-known9 after-measure .shared-slice-known9 .given i)) in
+    short-right (start .args .year) h t o (after-measure .measure .result) means typed bs _ (after-t .t .given .1) (omega arith)
 
 emit-sheet-requires : tie.Need-emit-sheet-requires
 emit-sheet-requires c κs =
-    let start = c .before .before .before .before .before .before .before .before .before .before .before .before .before .before .before
-    .before .before in
-    let shared-slice-known = c .before .before .before .before .before .before .before .before .before .before .before .before .before .before
-    .before .before .shared-slice-known in
-    let shared-slice-known2 = c .before .before .before .before .before .before .before .before .before .before .before .before .before .before
-    .before .shared-slice-known2 in
-    let shared-slice-known3 = c .before .before .before .before .before .before .before .before .before .before .before .before .before .before
-    .shared-slice-known3 in
-    let shared-slice-known4 = c .before .before .before .before .before .before .before .before .before .before .before .before .before
-    .shared-slice-known4 in
-    let shared-slice-known5 = c .before .before .before .before .before .before .before .before .before .before .before .before
-    .shared-slice-known5 in
-    let shared-slice-known6 = c .before .before .before .before .before .before .before .before .before .before .before .shared-slice-known6 in
-    let shared-slice-known9 = c .before .before .before .before .before .before .before .before .shared-slice-known9 in
-    let measure = c .before .before .before .before .before .before .measure in
-    let the-t = c .before .before .before .before .t in
+    let after-t = c .before .before .before .before in
+    let after-measure = to-measure after-t in
+    let start = to-start after-measure in
     let date = now (start .args .date) in
     let designation = now (start .args .designation) in
     let scale = start .args .scale in
@@ -112,39 +106,24 @@ emit-sheet-requires c κs =
     let h = headOf date designation scale title rest designation2 carried in
     let t = table (now (start .args .table)) (now (start .args .elements)) (now (start .args .bytes)) in
     let o = now (start .args .out) in
-    let means = measure .ensures scale (omega arith) in
+    let means = after-measure .measure .ensures scale (omega arith) in
     let typed = typed-head date designation scale title rest designation2 carried
-    (all-bytes date (λ i. omega (arith, shared-slice-known .given i)))
-    (all-bytes designation (λ i. omega (arith, shared-slice-known2 .given i)))
+    (all-bytes date (λ i. omega (arith, to-shared-slice-known after-measure .shared-slice-known .given i)))
+    (all-bytes designation (λ i. omega (arith, to-shared-slice-known2 after-measure .shared-slice-known2 .given i)))
     (omega arith)
-    (all-bytes title (λ i. omega (arith, shared-slice-known3 .given i)))
-    (start .pre .0, all-bytes rest (λ i. omega (arith, shared-slice-known4 .given i)))
-    (all-bytes designation2 (λ i. omega (arith, shared-slice-known5 .given i)))
-    (start .pre .1, all-bytes carried (λ i. omega (arith, shared-slice-known6 .given i))) in
-    let bs = all-bytes (now (start .args .bytes)) (λ i. omega (arith, shared-slice-known9 .given i)) in
-    ready (start .args .year) h t o (measure .result) means typed bs _ (the-t .given .1) (omega arith)
+    (all-bytes title (λ i. omega (arith, to-shared-slice-known3 after-measure .shared-slice-known3 .given i)))
+    (start .pre .0, all-bytes rest (λ i. omega (arith, to-shared-slice-known4 after-measure .shared-slice-known4 .given i)))
+    (all-bytes designation2 (λ i. omega (arith, to-shared-slice-known5 after-measure .shared-slice-known5 .given i)))
+    (start .pre .1, all-bytes carried (λ i. omega (arith, to-shared-slice-known6 after-measure .shared-slice-known6 .given i))) in
+    let bs = all-bytes (now (start .args .bytes)) (λ i. omega (arith, to-shared-slice-known9 after-measure .shared-slice-known9 .given i)) in
+    ready (start .args .year) h t o (after-measure .measure .result) means typed bs _ (after-t .t .given .1) (omega arith)
 
 returns-2 : tie.Need-returns-2
 returns-2 c =
-    let start = c .before .before .before .before .before .before .before .before .before .before .before .before .before .before .before
-    .before .before .before .before .before in
-    let shared-slice-known = c .before .before .before .before .before .before .before .before .before .before .before .before .before .before
-    .before .before .before .before .before .shared-slice-known in
-    let shared-slice-known2 = c .before .before .before .before .before .before .before .before .before .before .before .before .before .before
-    .before .before .before .before .shared-slice-known2 in
-    let shared-slice-known3 = c .before .before .before .before .before .before .before .before .before .before .before .before .before .before
-    .before .before .before .shared-slice-known3 in
-    let shared-slice-known4 = c .before .before .before .before .before .before .before .before .before .before .before .before .before .before
-    .before .before .shared-slice-known4 in
-    let shared-slice-known5 = c .before .before .before .before .before .before .before .before .before .before .before .before .before .before
-    .before .shared-slice-known5 in
-    let shared-slice-known6 = c .before .before .before .before .before .before .before .before .before .before .before .before .before .before
-    .shared-slice-known6 in
-    let shared-slice-known9 = c .before .before .before .before .before .before .before .before .before .before .before .shared-slice-known9 in
-    let measure = c .before .before .before .before .before .before .before .before .before .measure in
-    let the-t = c .before .before .before .before .before .before .before .t in
-    let emit-sheet = c .before .before .emit-sheet in
-    let good = start .good in
+    let after-emit-sheet = c .before .before in
+    let after-t = after-emit-sheet .before .before .before .before .before in
+    let after-measure = to-measure after-t in
+    let start = to-start after-measure in
     let date = now (start .args .date) in
     let designation = now (start .args .designation) in
     let scale = start .args .scale in
@@ -155,22 +134,23 @@ returns-2 c =
     let h = headOf date designation scale title rest designation2 carried in
     let t = table (now (start .args .table)) (now (start .args .elements)) (now (start .args .bytes)) in
     let o = now (start .args .out) in
-    let means = measure .ensures scale (omega (arith, good)) in
+    let means = after-measure .measure .ensures scale (omega (arith, start .good)) in
     let typed = typed-head date designation scale title rest designation2 carried
-    (all-bytes date (λ i. omega (arith, shared-slice-known .given i)))
-    (all-bytes designation (λ i. omega (arith, shared-slice-known2 .given i)))
-    (omega (arith, good))
-    (all-bytes title (λ i. omega (arith, shared-slice-known3 .given i)))
-    (start .pre .0, all-bytes rest (λ i. omega (arith, shared-slice-known4 .given i)))
-    (all-bytes designation2 (λ i. omega (arith, shared-slice-known5 .given i)))
-    (start .pre .1, all-bytes carried (λ i. omega (arith, shared-slice-known6 .given i))) in
-    let bs = all-bytes (now (start .args .bytes)) (λ i. omega (arith, shared-slice-known9 .given i)) in
-    written-right (start .args .year) h t o (measure .result) means typed bs _ (the-t .given .1) _ (omega arith) (emit-sheet .ensures)
+    (all-bytes date (λ i. omega (arith, to-shared-slice-known after-measure .shared-slice-known .given i)))
+    (all-bytes designation (λ i. omega (arith, to-shared-slice-known2 after-measure .shared-slice-known2 .given i)))
+    (omega (arith, start .good))
+    (all-bytes title (λ i. omega (arith, to-shared-slice-known3 after-measure .shared-slice-known3 .given i)))
+    (start .pre .0, all-bytes rest (λ i. omega (arith, to-shared-slice-known4 after-measure .shared-slice-known4 .given i)))
+    (all-bytes designation2 (λ i. omega (arith, to-shared-slice-known5 after-measure .shared-slice-known5 .given i)))
+    (start .pre .1, all-bytes carried (λ i. omega (arith, to-shared-slice-known6 after-measure .shared-slice-known6 .given i))) in
+    let bs = all-bytes (now (start .args .bytes)) (λ i. omega (arith, to-shared-slice-known9 after-measure .shared-slice-known9 .given i)) in
+    written-right (start .args .year) h t o (after-measure .measure .result) means typed bs _ (after-t .t .given .1) _ (omega arith)
+    (after-emit-sheet .emit-sheet .ensures)
 
 returns-3 : tie.Need-returns-3
 returns-3 c =
-    let start = c .before .before .before .before .before .before .before .before .before .before .before .before .before .before in
-    let measure = c .before .before .before .measure in
+    let after-measure = c .before .before .before in
+    let start = to-start after-measure in
     let date = now (start .args .date) in
     let designation = now (start .args .designation) in
     let scale = start .args .scale in
@@ -181,8 +161,8 @@ returns-3 c =
     let h = headOf date designation scale title rest designation2 carried in
     let t = table (now (start .args .table)) (now (start .args .elements)) (now (start .args .bytes)) in
     let o = now (start .args .out) in
-    let means = measure .ensures scale (omega arith) in
-    refused-right (start .args .year) h t o (measure .result) means _ (c .before .r .given .1)
+    let means = after-measure .measure .ensures scale (omega arith) in
+    refused-right (start .args .year) h t o (after-measure .measure .result) means _ (c .before .r .given .1)
 
 pub write-at-spec : {M : Type 1} → statement M
 write-at-spec =

@@ -8,21 +8,30 @@ use borrow.Author.Needs.{needs}
 use Rattle.writing.proofs.sheets.write_by_year.Statement.{statement}
 use Rattle.writing.proofs.sheets.write_by_year.Tie as tie
 
+abbrev to-start : tie.After-new → tie.Start
+to-start p = p .before .before .before .before .before .before .before .before .before
+
 returns : tie.Need-returns
 returns c =
-    let start = c .before .before .before .before .before .before .before .before .before .before .before .before .before .before .before .before .before .before .before .args in
-    let h = headOf (now (start .date)) (now (start .designation)) (start .scale) (now (start .title)) (now (start .rest))
-    (now (start .designation2)) (now (start .carried)) in
-    let t = table (now (start .table)) (now (start .elements)) (now (start .bytes)) in
-    at-known (start .year) _ h t (now (start .out)) _ refl (c .before .before .before .before .before .before .before .before .before .before .new .ensures .0) _ _ _ _ (c .before .before .before .before .before .before .before .before .known .given .1) (c .before .before .before .before .year .ensures) (c .before .before .write-at .ensures)
+    let after-write-at = c .before .before in
+    let after-year = after-write-at .before .before in
+    let after-known = after-year .before .before .before .before in
+    let after-new = after-known .before .before in
+    let start = to-start after-new in
+    let h = headOf (now (start .args .date)) (now (start .args .designation)) (start .args .scale) (now (start .args .title)) (now (start .args .rest))
+    (now (start .args .designation2)) (now (start .args .carried)) in
+    let t = table (now (start .args .table)) (now (start .args .elements)) (now (start .args .bytes)) in
+    at-known (start .args .year) _ h t (now (start .args .out)) _ refl (after-new .new .ensures .0) _ _ _ _ (after-known .known .given .1)
+    (after-year .year .ensures) (after-write-at .write-at .ensures)
 
 returns-2 : tie.Need-returns-2
 returns-2 c =
-    let start = c .before .before .before .before .before .before .before .before .before .before .before .before .args in
-    let h = headOf (now (start .date)) (now (start .designation)) (start .scale) (now (start .title)) (now (start .rest))
-    (now (start .designation2)) (now (start .carried)) in
-    let t = table (now (start .table)) (now (start .elements)) (now (start .bytes)) in
-    at-unknown (start .year) _ h t (now (start .out)) _ refl (c .before .before .before .new .ensures .0) _ (c .before .r .given .1)
+    let after-new = c .before .before .before in
+    let start = to-start after-new in
+    let h = headOf (now (start .args .date)) (now (start .args .designation)) (start .args .scale) (now (start .args .title)) (now (start .args .rest))
+    (now (start .args .designation2)) (now (start .args .carried)) in
+    let t = table (now (start .args .table)) (now (start .args .elements)) (now (start .args .bytes)) in
+    at-unknown (start .args .year) _ h t (now (start .args .out)) _ refl (after-new .new .ensures .0) _ (c .before .r .given .1)
 
 pub write-by-year-spec : {M : Type 1} → statement M
 write-by-year-spec =

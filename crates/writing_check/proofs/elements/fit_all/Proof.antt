@@ -1,3 +1,4 @@
+-- The loop keeps that all n elements fit exactly if those left do; one too wide ends it with no (`fit-wide`), none left with yes (`fit-done`).
 use Prim.Native.Nat.{ℕ, _+_, _≤_, _^_}
 use mathlib.Core.Path.{_≡_, refl, sym, _∙_}
 use native.Mathlib.Omega.{arith}
@@ -9,7 +10,8 @@ use Rattle.writing_check.proofs.elements.fit_all.Statement.{statement}
 use Rattle.writing_check.proofs.elements.fit_all.Tie as tie
 
 abbrev Inv-loop : tie.InvT-loop
-Inv-loop elements at n bound left₀ i₀ left i = (i + left ≤ length elements) × ((w : ℕ) → bound ≡ 256 ^ w → fitAll (replicate n w) (drop at elements) ≡ fitAll (replicate left w) (drop i elements))
+Inv-loop elements at n bound left₀ i₀ left i = (i + left ≤ length elements) ×
+    ((w : ℕ) → bound ≡ 256 ^ w → fitAll (replicate n w) (drop at elements) ≡ fitAll (replicate left w) (drop i elements))
 
 abbrev μ-loop : tie.MeasureT-loop
 μ-loop elements at n bound left₀ i₀ left i = left
@@ -19,22 +21,24 @@ loop-holds c = (omega arith, λ w e. refl)
 
 returns : tie.Need-returns Inv-loop μ-loop
 returns c =
-    let start = c .before .before .before .before in
-    let loop = c .before .before .before .loop in
-    λ w e. sym (loop .inv .1 w e ∙ fit-wide w (now (start .args .elements)) (loop .i) (omega arith) (loop .left) (omega arith) (omega (arith, e)))
+    let at-loop = c .before .before .before in
+    let start = at-loop .before in
+    λ w e. sym (at-loop .loop .inv .1 w e ∙ fit-wide w (now (start .args .elements)) (at-loop .loop .i) (omega arith) (at-loop .loop .left) (omega arith)
+    (omega (arith, e)))
 
 loop-again : tie.Need-loop-again Inv-loop μ-loop
 loop-again c =
-    let start = c .before .before .before .before in
-    let loop = c .before .before .before .loop in (
+    let at-loop = c .before .before .before in
+    let start = at-loop .before in (
       omega arith,
-      λ w e. loop .inv .1 w e ∙ fit-next w (now (start .args .elements)) (loop .i) (omega arith) (loop .left) (omega arith) (omega (arith, e)),
+      λ w e. at-loop .loop .inv .1 w e ∙ fit-next w (now (start .args .elements)) (at-loop .loop .i) (omega arith) (at-loop .loop .left) (omega arith)
+          (omega (arith, e)),
     )
 
 returns-2 : tie.Need-returns-2 Inv-loop μ-loop
 returns-2 c =
-    let loop = c .before .loop in
-    λ w e. sym (loop .inv .1 w e ∙ fit-done w (loop .left) _ (omega arith))
+    let at-loop = c .before in
+    λ w e. sym (at-loop .loop .inv .1 w e ∙ fit-done w (at-loop .loop .left) _ (omega arith))
 
 pub fit-all-spec : {M : Type 1} → statement M
 fit-all-spec =

@@ -1,3 +1,4 @@
+-- Six rules are chained (`_▸_`) on what `shape_of` answers of type and scale, which is the definition's shape.
 use mathlib.Core.Path.{ap}
 use Rattle.fields.proofs.Laws.Chain.{_▸_, as-checks}
 use Rattle.writing_check.specs.Items.{headRules}
@@ -7,14 +8,14 @@ use Rattle.writing_check.proofs.items.head_rules.Tie as tie
 
 returns : tie.Need-returns
 returns c =
-    let start = c .before .before .before .before .before .before .before .before .before .before in
-    let shape-of = c .before .before .before .before .before .before .before .before .before .shape-of in
-    let demand = c .before .before .before .before .before .before .before .demand in
-    let demand2 = c .before .before .before .before .before .demand2 in
-    let demand3 = c .before .before .before .before .demand3 in
-    let feature = c .before .before .before .feature in
-    as-checks (ap (λ k. headRules (start .args .a) k) (shape-of .ensures))
-    (demand .ensures _ ▸ demand2 .ensures _ ▸ demand3 .ensures _ ▸ feature .ensures ▸ c .before .demand4 .ensures _ ▸ c .demand5 .ensures _)
+    let after-feature = c .before .before .before in
+    let after-demand3 = after-feature .before in
+    let after-demand = after-demand3 .before .before .before in
+    let after-shape-of = after-demand .before .before in
+    let start = after-shape-of .before in
+    as-checks (ap (λ k. headRules (start .args .a) k) (after-shape-of .shape-of .ensures))
+    (after-demand .demand .ensures _ ▸ after-demand3 .before .demand2 .ensures _ ▸ after-demand3 .demand3 .ensures _ ▸ after-feature .feature .ensures ▸
+    c .before .demand4 .ensures _ ▸ c .demand5 .ensures _)
 
 pub head-rules-spec : {M : Type 1} → statement M
 head-rules-spec =

@@ -1,3 +1,4 @@
+-- Only type 128 has the length before its value: four bytes more (`long-bytes`), else none (`short-bytes`).
 use native.Mathlib.Omega.{arith}
 use Rattle.writing_check.proofs.Laws.Items.{long-bytes, short-bytes}
 use borrow.Author.Needs.{needs}

@@ -1,3 +1,4 @@
+-- Each number read at a place of the table is the same number of the table from there on (`getD-drop`).
 use lib.Seq.{getD-drop}
 use native.Mathlib.Nat.{add-zero}
 use borrow.Author.Needs.{needs}

@@ -1,3 +1,4 @@
+-- Six ways out by type: in each, the tests passed so far settle the definition's kind, which says the rest.
 use borrow.Author.Tests.{eq-eqb, ne-eqb}
 use borrow.Author.Needs.{needs}
 use Rattle.writing_check.proofs.items.shape_of.Statement.{statement}
@@ -8,35 +9,47 @@ returns c = rw (c .plain .ensures) (simp (c .before .if1 .taken))
 
 returns-2 : tie.Need-returns-2
 returns-2 c =
-    let if1 = c .before .before .if1 in
-    rw (c .plain2 .ensures) (simp (if1 .left, eq-eqb _ _ (c .before .if2 .taken)))
+    rw (c .plain2 .ensures) (simp (c .before .before .if1 .left, eq-eqb _ _ (c .before .if2 .taken)))
 
 returns-3 : tie.Need-returns-3
 returns-3 c =
-    let if1 = c .before .before .before .if1 in
-    let if2 = c .before .before .if2 in
-    rw (c .plain3 .ensures) (simp (if1 .left, ne-eqb _ _ (if2 .left), c .before .if3 .taken))
+    let then3 = c .before in
+    rw (c .plain3 .ensures) (simp (then3 .before .before .if1 .left, ne-eqb _ _ (then3 .before .if2 .left), then3 .if3 .taken))
 
 returns-4 : tie.Need-returns-4
 returns-4 c =
-    let if1 = c .before .before .before .before .if1 in
-    let if2 = c .before .before .before .if2 in
-    let if3 = c .before .before .if3 in
-    rw (c .plain4 .ensures) (simp (if1 .left, ne-eqb _ _ (if2 .left), if3 .left, eq-eqb _ _ (c .before .if4 .taken)))
+    let else3 = c .before .before in
+    rw (c .plain4 .ensures) (simp (
+      else3 .before .before .if1 .left,
+      ne-eqb _ _ (else3 .before .if2 .left),
+      else3 .if3 .left,
+      eq-eqb _ _
+          (c .before .if4 .taken),
+    ))
 
 returns-5 : tie.Need-returns-5
 returns-5 c =
-    let if1 = c .before .before .before .before .if1 in
-    let if2 = c .before .before .before .if2 in
-    let if3 = c .before .before .if3 in
-    simp (if1 .left, ne-eqb _ _ (if2 .left), if3 .left, ne-eqb _ _ (c .before .if4 .left), eq-eqb _ _ (c .if5 .taken))
+    let else3 = c .before .before in
+    simp (
+      else3 .before .before .if1 .left,
+      ne-eqb _ _ (else3 .before .if2 .left),
+      else3 .if3 .left,
+      ne-eqb _ _ (c .before .if4 .left),
+      eq-eqb _ _
+          (c .if5 .taken),
+    )
 
 returns-6 : tie.Need-returns-6
 returns-6 c =
-    let if1 = c .before .before .before .before .if1 in
-    let if2 = c .before .before .before .if2 in
-    let if3 = c .before .before .if3 in
-    simp (if1 .left, ne-eqb _ _ (if2 .left), if3 .left, ne-eqb _ _ (c .before .if4 .left), ne-eqb _ _ (c .if5 .left))
+    let else3 = c .before .before in
+    simp (
+      else3 .before .before .if1 .left,
+      ne-eqb _ _ (else3 .before .if2 .left),
+      else3 .if3 .left,
+      ne-eqb _ _ (c .before .if4 .left),
+      ne-eqb _ _
+          (c .if5 .left),
+    )
 
 pub shape-of-spec : {M : Type 1} → statement M
 shape-of-spec =

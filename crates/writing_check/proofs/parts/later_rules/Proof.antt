@@ -1,3 +1,4 @@
+-- Two rules, that the points fit four bytes and that only a marked record has an upper half, are chained (`_▸_`) in the definition's order.
 use Rattle.fields.proofs.Laws.Chain.{_▸_}
 use Rattle.layout.specs.Writing.Parts.{laterRules}
 use borrow.Author.Needs.{needs}

@@ -1,3 +1,4 @@
+-- Points below 2^32 times a point's size cannot wrap (`product-fits`); with or without a text it is the definition's sum.
 use native.Mathlib.Omega.{arith}
 use native.Mathlib.Nat.{add-zero}
 use borrow.Author.Needs.{needs}
@@ -13,24 +14,24 @@ mul-n c =
 
 add-result-2 : tie.Need-add-result-2
 add-result-2 c =
-    let start = c .before .before in
-    let point-size = c .before .point-size in
-    let l = product-fits (start .args .points) (point-size .result) (start .pre .0) (point-size .ensures .1) in
+    let after-point-size = c .before in
+    let start = after-point-size .before in
+    let l = product-fits (start .args .points) (after-point-size .point-size .result) (start .pre .0) (after-point-size .point-size .ensures .1) in
     omega (arith, l)
 
 returns : tie.Need-returns
 returns c =
-    let start = c .before .before in
-    let point-size = c .before .point-size in
-    let l = product-fits (start .args .points) (point-size .result) (start .pre .0) (point-size .ensures .1) in
-    (rw (c .if1 .taken, ← (point-size .ensures .0)), omega (arith, l))
+    let after-point-size = c .before in
+    let start = after-point-size .before in
+    let l = product-fits (start .args .points) (after-point-size .point-size .result) (start .pre .0) (after-point-size .point-size .ensures .1) in
+    (rw (c .if1 .taken, ← (after-point-size .point-size .ensures .0)), omega (arith, l))
 
 returns-2 : tie.Need-returns-2
 returns-2 c =
-    let start = c .before .before in
-    let point-size = c .before .point-size in
-    let l = product-fits (start .args .points) (point-size .result) (start .pre .0) (point-size .ensures .1) in
-    (rw (c .if1 .left, ← (point-size .ensures .0), add-zero), omega (arith, l))
+    let after-point-size = c .before in
+    let start = after-point-size .before in
+    let l = product-fits (start .args .points) (after-point-size .point-size .result) (start .pre .0) (after-point-size .point-size .ensures .1) in
+    (rw (c .if1 .left, ← (after-point-size .point-size .ensures .0), add-zero), omega (arith, l))
 
 pub part-length-spec : {M : Type 1} → statement M
 part-length-spec =

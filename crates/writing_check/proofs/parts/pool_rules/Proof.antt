@@ -1,3 +1,4 @@
+-- The elements refuse (`then-stop`), or the text's rules follow (`then-on`), with what is left of the pool of bytes as their room.
 use mathlib.Core.Path.{ap, sym}
 use denote.Ref.{now}
 use lib.ListN.{length, drop, length-drop}
@@ -9,18 +10,18 @@ use Rattle.writing_check.proofs.parts.pool_rules.Tie as tie
 
 returns : tie.Need-returns
 returns c =
-    let start = c .before .before .before .before .before .before .before in
-    let element-rules = c .before .before .before .before .element-rules in
-    let enum-told = c .before .before .enum-told in
-    λ y. then-on y _ _ (element-rules .result) (element-rules .ensures y) (enum-told .given .1) _ _
+    let after-enum-told = c .before .before in
+    let after-element-rules = after-enum-told .before .before in
+    let start = after-element-rules .before .before .before in
+    λ y. then-on y _ _ (after-element-rules .element-rules .result) (after-element-rules .element-rules .ensures y) (after-enum-told .enum-told .given .1) _ _
     (as-checks (ap (λ k. textBy (start .args .s) (start .args .size) k) (sym (length-drop (start .args .p .byte) (now (start .args .bytes)))))
     (c .text-rules .ensures y))
 
 returns-2 : tie.Need-returns-2
 returns-2 c =
-    let start = c .before .before .before .before .before .before in
-    let element-rules = c .before .before .before .element-rules in
-    λ y. then-stop y _ _ (element-rules .result) (element-rules .ensures y) _ (c .before .r .given .1)
+    let after-element-rules = c .before .before .before in
+    let start = after-element-rules .before .before .before in
+    λ y. then-stop y _ _ (after-element-rules .element-rules .result) (after-element-rules .element-rules .ensures y) _ (c .before .r .given .1)
     (textBy (start .args .s) (start .args .size) (length (drop (start .args .p .byte) (now (start .args .bytes)))))
 
 pub pool-rules-spec : {M : Type 1} → statement M

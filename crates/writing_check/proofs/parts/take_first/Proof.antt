@@ -1,3 +1,4 @@
+-- The rules of the points refuse (`part-stop`); or the points are below 2^32, and with no head the pools' answer is the part's (`first-on`).
 use native.Mathlib.Omega.{arith}
 use denote.Ref.{now}
 use Rattle.fields.proofs.Laws.Chain.{step-holds}
@@ -9,34 +10,37 @@ use borrow.Author.Needs.{needs}
 use Rattle.writing_check.proofs.parts.take_first.Statement.{statement}
 use Rattle.writing_check.proofs.parts.take_first.Tie as tie
 
+abbrev to-start : tie.After-first-rules → tie.Start
+to-start p = p .before .before .before .before .before .before
+
 take-pools-requires : tie.Need-take-pools-requires
 take-pools-requires c κs =
-    let start = c .before .before .before .before .before .before .before .before in
-    let first-rules = c .before .before .first-rules in
+    let after-first-rules = c .before .before in
+    let start = to-start after-first-rules in
     let h = start .pre .0 in (
       start .pre .1,
       h .byte,
       omega arith,
       h .length,
-      first-small _ _ (step-holds _ _ _ (first-rules .result) (first-rules .ensures) (c .enum-told .given .1)),
+      first-small _ _ (step-holds _ _ _ (after-first-rules .first-rules .result) (after-first-rules .first-rules .ensures) (c .enum-told .given .1)),
       omega arith,
     )
 
 returns : tie.Need-returns
 returns c =
-    let start = c .before .before .before .before .before .before .before .before .before in
-    let first-rules = c .before .before .before .first-rules in
+    let after-first-rules = c .before .before .before in
+    let start = to-start after-first-rules in
     first-on (start .args .year) (now (start .args .table)) (now (start .args .elements)) (now (start .args .bytes)) (start .args .p)
-    (referenceOf (start .args .reference)) (firstRules (start .args .word)) (first-rules .result) (first-rules .ensures)
+    (referenceOf (start .args .reference)) (firstRules (start .args .word)) (after-first-rules .first-rules .result) (after-first-rules .first-rules .ensures)
     (c .before .enum-told .given .1) _ (c .take-pools .ensures (start .args .year) (now (start .args .table)))
 
 returns-2 : tie.Need-returns-2
 returns-2 c =
-    let start = c .before .before .before .before .before .before .before .before .before in
-    let first-rules = c .before .before .before .first-rules in
+    let after-first-rules = c .before .before .before in
+    let start = to-start after-first-rules in
     part-stop _ (now (start .args .table)) (now (start .args .elements)) (now (start .args .bytes)) (start .args .p)
     (referenceOf (start .args .reference)) (firstRules (start .args .word)) (partBytes (referenceOf (start .args .reference)))
-    (first-rules .result) (first-rules .ensures) _ (c .before .r .given .1)
+    (after-first-rules .first-rules .result) (after-first-rules .first-rules .ensures) _ (c .before .r .given .1)
 
 pub take-first-spec : {M : Type 1} → statement M
 take-first-spec =

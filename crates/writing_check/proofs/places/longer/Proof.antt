@@ -1,3 +1,4 @@
+-- Up to the limit the sum is kept as it is; past it one more than the limit stands for every length (`capped-past`).
 use Rattle.writing_check.proofs.Laws.Moves.{capped-past}
 use borrow.Author.Tests.{le-leb}
 use borrow.Author.Needs.{needs}

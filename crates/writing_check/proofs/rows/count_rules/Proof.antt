@@ -1,3 +1,4 @@
+-- Four rules are chained (`_▸_`); the last, that flag and items agree, is the definition's by what `agree` answers.
 use mathlib.Core.Bool.{_&&_}
 use lib.Dec.{leb, ltb}
 use Rattle.layout.specs.Refusals.{TABLE}
@@ -13,14 +14,14 @@ use Rattle.writing_check.proofs.rows.count_rules.Tie as tie
 returns : tie.Need-returns
 unfolding countRules
 returns c =
-    let demand = c .before .before .before .before .before .before .before .before .demand in
-    let demand2 = c .before .before .before .before .before .before .demand2 in
-    let demand3 = c .before .before .before .demand3 in
+    let after-demand3 = c .before .before .before in
+    let after-demand2 = after-demand3 .before .before .before in
+    let after-demand = after-demand2 .before .before in
     λ y.
-    let a = c .before .before .before .before .before .before .before .before .before .before .before .args .a in
-    link (must (ltb (a .generalisation) 256) TABLE 4) (demand .result) (demand .ensures y)
-    ▸ link (must (ltb (a .word) 4294967296) TABLE 5) (demand2 .result) (demand2 .ensures y)
-    ▸ link (must (leb 1 (a .parts) && leb (a .parts) 65536) TABLE 6) (demand3 .result) (demand3 .ensures y)
+    let a = after-demand .before .before .before .args .a in
+    link (must (ltb (a .generalisation) 256) TABLE 4) (after-demand .demand .result) (after-demand .demand .ensures y)
+    ▸ link (must (ltb (a .word) 4294967296) TABLE 5) (after-demand2 .demand2 .result) (after-demand2 .demand2 .ensures y)
+    ▸ link (must (leb 1 (a .parts) && leb (a .parts) 65536) TABLE 6) (after-demand3 .demand3 .result) (after-demand3 .demand3 .ensures y)
     ▸ as-checks (ap (λ b. must b TABLE 7 ∷ []) (c .before .agree .ensures)) (c .demand4 .ensures y)
 
 pub count-rules-spec : {M : Type 1} → statement M

@@ -1,3 +1,4 @@
+-- The three bytes that are checked are the definition's three bytes of the reference number, so its checks are asked.
 use mathlib.Core.Path.{ap}
 use Rattle.fields.proofs.Laws.Chain.{as-checks}
 use Rattle.layout.specs.Shared.Reference.{referenceChecks}

@@ -1,3 +1,4 @@
+-- Dividing what is left answers as the definition's product does: too few for the parts (`room-short`), or the items decide (`room-is`).
 use Rattle.writing_check.proofs.Laws.Rows.{room-short, room-is}
 use borrow.Author.Needs.{needs}
 use Rattle.writing_check.proofs.rows.room.Statement.{statement}

@@ -1,3 +1,4 @@
+-- Room, names, reference and counts are chained (`_▸_`); the room's test is the definition's by what `room` answers.
 use mathlib.Core.List.{[], _∷_}
 use mathlib.Core.Path.{ap}
 use Rattle.fields.proofs.Laws.Chain.{_▸_, as-checks}
@@ -8,11 +9,9 @@ use Rattle.writing_check.proofs.rows.row_rules.Tie as tie
 
 returns : tie.Need-returns
 returns c =
-    let room = c .before .before .before .before .room in
-    let demand = c .before .before .before .demand in
-    let name-rules = c .before .before .name-rules in
-    as-checks (ap (λ b. must b 14 0 ∷ []) (room .ensures)) (demand .ensures _) ▸ name-rules .ensures _ ▸ c .before .reference-rules .ensures
-    ▸ c .count-rules .ensures _
+    let after-name-rules = c .before .before in
+    as-checks (ap (λ b. must b 14 0 ∷ []) (after-name-rules .before .before .room .ensures)) (after-name-rules .before .demand .ensures _) ▸
+    after-name-rules .name-rules .ensures _ ▸ c .before .reference-rules .ensures ▸ c .count-rules .ensures _
 
 pub row-rules-spec : {M : Type 1} → statement M
 row-rules-spec =

@@ -1,3 +1,4 @@
+-- Too few numbers for a row (`row-short`), a rule refuses (`row-stop`), or the row has room for what is inside and that is taken (`row-on`).
 use Prim.Native.Nat.{_+_}
 use mathlib.Core.Path.{refl}
 use native.Mathlib.Omega.{arith}
@@ -8,6 +9,9 @@ use borrow.Author.Needs.{needs}
 use Rattle.writing_check.proofs.rows.take_row.Statement.{statement}
 use Rattle.writing_check.proofs.rows.take_row.Tie as tie
 
+abbrev to-start : tie.After-read-row → tie.Start
+to-start p = p .before .before .before .before .before
+
 returns : tie.Need-returns
 returns c =
     let start = c .before .before .before .before in
@@ -15,14 +19,13 @@ returns c =
 
 take-inside-requires : tie.Need-take-inside-requires
 take-inside-requires c κs =
-    let start = c .before .before .before .before .before .before .before .before .before in
-    let if1 = c .before .before .before .before .before .if1 in
-    let read-row = c .before .before .before .before .read-row in
-    let row-rules = c .before .before .before .row-rules in
+    let after-row-rules = c .before .before .before in
+    let after-read-row = after-row-rules .before in
+    let start = to-start after-read-row in
     let h = start .pre .0 in
     let k = row-room (start .args .year) (now (start .args .table)) (now (start .args .elements)) (now (start .args .bytes)) (start .args .p)
-    (if1 .left) (read-row .result) (read-row .ensures) (row-rules .result) (row-rules .ensures) _ (c .longer .ensures)
-    (c .before .enum-told .given .1) in (
+    (after-read-row .before .if1 .left) (after-read-row .read-row .result) (after-read-row .read-row .ensures) (after-row-rules .row-rules .result)
+    (after-row-rules .row-rules .ensures) _ (c .longer .ensures) (c .before .enum-told .given .1) in (
       record
           { number = omega arith; byte = h .byte; length = rw (c .longer .ensures) (capped-low (start .args .p .length + 32)); isBytes = h .isBytes },
       start .pre .1,
@@ -32,23 +35,22 @@ take-inside-requires c κs =
 
 returns-2 : tie.Need-returns-2
 returns-2 c =
-    let start = c .before .before .before .before .before .before .before .before .before .before in
-    let if1 = c .before .before .before .before .before .before .if1 in
-    let read-row = c .before .before .before .before .before .read-row in
-    let row-rules = c .before .before .before .before .row-rules in
-    let enum-told = c .before .before .enum-told in
+    let after-longer = c .before in
+    let after-row-rules = after-longer .before .before .before in
+    let after-read-row = after-row-rules .before in
+    let start = to-start after-read-row in
     row-on (start .args .year) (now (start .args .table)) (now (start .args .elements)) (now (start .args .bytes)) (start .args .p)
-    (if1 .left) _ (read-row .ensures) (row-rules .result) (row-rules .ensures) _ (c .before .longer .ensures) (enum-told .given .1)
-    (c .take-inside .result) (c .take-inside .ensures)
+    (after-read-row .before .if1 .left) _ (after-read-row .read-row .ensures) (after-row-rules .row-rules .result) (after-row-rules .row-rules .ensures) _
+    (after-longer .longer .ensures) (after-longer .before .enum-told .given .1) (c .take-inside .result) (c .take-inside .ensures)
 
 returns-3 : tie.Need-returns-3
 returns-3 c =
-    let start = c .before .before .before .before .before .before .before .before .before in
-    let if1 = c .before .before .before .before .before .if1 in
-    let read-row = c .before .before .before .before .read-row in
-    let row-rules = c .before .before .before .row-rules in
+    let after-row-rules = c .before .before .before in
+    let after-read-row = after-row-rules .before in
+    let start = to-start after-read-row in
     row-stop (start .args .year) (now (start .args .table)) (now (start .args .elements)) (now (start .args .bytes)) (start .args .p)
-    (if1 .left) _ (read-row .ensures) (row-rules .result) (row-rules .ensures) _ refl _ (c .before .r .given .1)
+    (after-read-row .before .if1 .left) _ (after-read-row .read-row .ensures) (after-row-rules .row-rules .result) (after-row-rules .row-rules .ensures) _ refl
+    _ (c .before .r .given .1)
 
 pub take-row-spec : {M : Type 1} → statement M
 take-row-spec =

@@ -1,3 +1,4 @@
+-- A count of 65535 or more is written as the mark (`points-mark`), a smaller one as itself (`points-plain`).
 use Rattle.writing_emit.proofs.Laws.Headers.{points-mark, points-plain}
 use native.Mathlib.Omega.{arith}
 use borrow.Author.Needs.{needs}

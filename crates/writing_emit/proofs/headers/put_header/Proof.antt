@@ -1,3 +1,4 @@
+-- Four runs of 12, 8, 8 and 4 bytes, each put where the one before ends, are the 32 bytes of the header (`header-wrote`).
 use Rattle.writing_emit.proofs.Laws.Headers.{header-wrote}
 use borrow.Author.Needs.{needs}
 use Rattle.writing_emit.proofs.headers.put_header.Statement.{statement}
@@ -5,15 +6,14 @@ use Rattle.writing_emit.proofs.headers.put_header.Tie as tie
 
 returns : tie.Need-returns
 returns c =
-    let start = c .before .before .before .before .before .before .before .before .before .before .before .before .before .before .before
-    .before .before .before in
-    let put-lengths = c .before .before .before .before .before .before .before .before .before .before .before .before .before .before
-    .put-lengths in
-    let put-names = c .before .before .before .before .before .before .before .before .before .before .put-names in
-    let put-marks = c .before .before .before .before .before .before .put-marks in
-    let put-counts = c .before .before .put-counts in
+    let after-put-counts = c .before .before in
+    let after-put-marks = after-put-counts .before .before .before .before in
+    let after-put-names = after-put-marks .before .before .before .before in
+    let after-put-lengths = after-put-names .before .before .before .before in
+    let start = after-put-lengths .before .before .before .before in
     header-wrote (start .args .table .now) (start .args .at) (start .args .out .now) _ _ _ _ (start .args .w) (start .args .metric)
-    (start .args .semantics) (put-lengths .ensures) (put-names .ensures) (put-marks .ensures) (put-counts .ensures)
+    (start .args .semantics) (after-put-lengths .put-lengths .ensures) (after-put-names .put-names .ensures) (after-put-marks .put-marks .ensures)
+    (after-put-counts .put-counts .ensures)
 
 pub put-header-spec : {M : Type 1} → statement M
 put-header-spec =

@@ -1,98 +1,105 @@
+-- The piece at the cursor is an item, so its numbers fit and there is room (`item-asks`); head, length and value are its bytes (`item-did`).
 use Rattle.writing_emit.proofs.Laws.Items.{item-asks, item-did}
 use native.Mathlib.Omega.{arith}
 use borrow.Author.Needs.{needs}
 use Rattle.writing_emit.proofs.items.emit_item.Statement.{statement}
 use Rattle.writing_emit.proofs.items.emit_item.Tie as tie
 
+abbrev start-from-shared-slice-known3 : tie.After-shared-slice-known3 → tie.Start
+start-from-shared-slice-known3 p = p .before .before .before .before
+
+abbrev start-from-shared-slice-known5 : tie.After-shared-slice-known5 → tie.Start
+start-from-shared-slice-known5 p = start-from-shared-slice-known3 (p .before .before .before)
+
+abbrev to-put-head : tie.After-put-length → tie.After-put-head
+to-put-head p = p .before .before .before .before
+
+abbrev start-from-put-length : tie.After-put-length → tie.Start
+start-from-put-length p = start-from-shared-slice-known5 (to-put-head p .before .before)
+
+abbrev to-put-length : tie.After-struct-known → tie.After-put-length
+to-put-length p = p .before .before .before .before .before .before .before
+
 shared-slice-read-kind : tie.Need-shared-slice-read-kind
 shared-slice-read-kind c =
-    let start = c .before .before .before .before in
+    let start = start-from-shared-slice-known3 c in
     let a = item-asks (start .args .table .now) (start .args .bytes .now) (start .args .c) _ (start .pre) in
     omega (arith, a .0)
 
 cast-kind : tie.Need-cast-kind
 cast-kind c =
-    let start = c .before .before .before .before in
+    let start = start-from-shared-slice-known3 c in
     let a = item-asks (start .args .table .now) (start .args .bytes .now) (start .args .c) _ (start .pre) in
     omega (arith, a .2)
 
 shared-slice-read-n : tie.Need-shared-slice-read-n
 shared-slice-read-n c =
-    let start = c .before .before .before .before .before in
+    let start = start-from-shared-slice-known3 (c .before) in
     let a = item-asks (start .args .table .now) (start .args .bytes .now) (start .args .c) _ (start .pre) in
     omega (arith, a .0)
 
 shared-slice-read-put-head : tie.Need-shared-slice-read-put-head
 shared-slice-read-put-head c =
-    let start = c .before .before .before .before .before .before .before in
+    let start = start-from-shared-slice-known5 c in
     let a = item-asks (start .args .table .now) (start .args .bytes .now) (start .args .c) _ (start .pre) in
     omega (arith, a .0)
 
 cast-put-head : tie.Need-cast-put-head
 cast-put-head c =
-    let start = c .before .before .before .before .before .before .before in
+    let start = start-from-shared-slice-known5 c in
     let a = item-asks (start .args .table .now) (start .args .bytes .now) (start .args .c) _ (start .pre) in
     omega (arith, a .1)
 
 shared-slice-read-put-head-2 : tie.Need-shared-slice-read-put-head-2
 shared-slice-read-put-head-2 c =
-    let start = c .before .before .before .before .before .before .before .before in
+    let start = start-from-shared-slice-known5 (c .before) in
     let a = item-asks (start .args .table .now) (start .args .bytes .now) (start .args .c) _ (start .pre) in
     omega (arith, a .0)
 
 cast-put-head-2 : tie.Need-cast-put-head-2
 cast-put-head-2 c =
-    let start = c .before .before .before .before .before .before .before .before in
+    let start = start-from-shared-slice-known5 (c .before) in
     let a = item-asks (start .args .table .now) (start .args .bytes .now) (start .args .c) _ (start .pre) in
     omega (arith, a .3)
 
 put-head-requires : tie.Need-put-head-requires
 put-head-requires c κs =
-    let start = c .before .before .before .before .before .before .before .before in
+    let start = start-from-shared-slice-known5 (c .before) in
     let a = item-asks (start .args .table .now) (start .args .bytes .now) (start .args .c) _ (start .pre) in
     omega (arith, a .6)
 
 put-length-requires : tie.Need-put-length-requires
 put-length-requires c κs =
-    let start = c .before .before .before .before .before .before .before .before .before .before .before .before in
-    let put-head = c .before .before .before .put-head in
+    let after-put-head = c .before .before .before in
+    let start = start-from-shared-slice-known5 (after-put-head .before .before) in
     let a = item-asks (start .args .table .now) (start .args .bytes .now) (start .args .c) _ (start .pre) in
-    omega (arith, a .6, a .4, put-head .kept)
+    omega (arith, a .6, a .4, after-put-head .put-head .kept)
 
 put-bytes-requires : tie.Need-put-bytes-requires
 put-bytes-requires c κs =
-    let start = c .before .before .before .before .before .before .before .before .before .before .before .before .before .before .before .before in
-    let put-head = c .before .before .before .before .before .before .before .put-head in
-    let put-length = c .before .before .before .put-length in
+    let after-put-length = c .before .before .before in
+    let start = start-from-put-length after-put-length in
     let a = item-asks (start .args .table .now) (start .args .bytes .now) (start .args .c) _ (start .pre) in
-    omega (arith, a .6, a .5, put-head .kept, put-length .kept, put-length .ensures .0)
+    omega (arith, a .6, a .5, to-put-head after-put-length .put-head .kept, after-put-length .put-length .kept, after-put-length .put-length .ensures .0)
 
 add-t11 : tie.Need-add-t11
 add-t11 c =
-    let start = c .before .before .before .before .before .before .before .before .before .before .before .before .before .before .before
-    .before .before .before .before .before in
+    let start = start-from-put-length (to-put-length c) in
     let a = item-asks (start .args .table .now) (start .args .bytes .now) (start .args .c) _ (start .pre) in
-    let g = start .good in
-    omega (arith, a .5, g)
+    omega (arith, a .5, start .good)
 
 add-t29 : tie.Need-add-t29
 add-t29 c =
-    let start = c .before .before .before .before .before .before .before .before .before .before .before .before .before .before .before
-    .before .before .before .before .before in
-    let put-length = c .before .before .before .before .before .before .before .put-length in
+    let start = start-from-put-length (to-put-length c) in
     let a = item-asks (start .args .table .now) (start .args .bytes .now) (start .args .c) _ (start .pre) in
-    let g = start .good in
-    omega (arith, a .6, put-length .ensures .0, g)
+    omega (arith, a .6, to-put-length c .put-length .ensures .0, start .good)
 
 returns : tie.Need-returns
 returns c =
-    let start = c .before .before .before .before .before .before .before .before .before .before .before .before .before .before .before
-    .before .before .before .before .before in
-    let put-head = c .before .before .before .before .before .before .before .before .before .before .before .put-head in
-    let put-length = c .before .before .before .before .before .before .before .put-length in
-    let put-bytes = c .before .before .before .put-bytes in
-    item-did (start .args .table .now) (start .args .bytes .now) (start .args .c) _ (start .pre) _ (put-length .ensures .0 .0) _ _ _ _
-    (put-head .ensures) (put-length .ensures .1) (put-bytes .ensures)
+    let after-put-length = to-put-length c in
+    let start = start-from-put-length after-put-length in
+    item-did (start .args .table .now) (start .args .bytes .now) (start .args .c) _ (start .pre) _ (after-put-length .put-length .ensures .0 .0) _ _ _ _
+    (to-put-head after-put-length .put-head .ensures) (after-put-length .put-length .ensures .1) (c .before .before .before .put-bytes .ensures)
 
 pub emit-item-spec : {M : Type 1} → statement M
 emit-item-spec =

@@ -1,3 +1,4 @@
+-- The loop keeps `Left`: the items still to be written onto the slice as it is give the whole; one item a turn.
 use borrow.Author.Needs.{needs}
 use mathlib.Core.List.{[]}
 use native.Mathlib.Omega.{arith}
@@ -16,6 +17,9 @@ Inv-loop table bytes n out₀ left₀ acc₀ out left acc = Left flattenItem Fin
 abbrev μ-loop : tie.MeasureT-loop
 μ-loop table bytes n out₀ left₀ acc₀ out left acc = left
 
+abbrev to-start : tie.At-loop Inv-loop μ-loop → tie.Start Inv-loop μ-loop
+to-start p = p .before .before .before .before
+
 loop-holds : tie.Need-loop-holds Inv-loop μ-loop
 loop-holds c =
     let start = c .before .before .before in
@@ -24,22 +28,22 @@ loop-holds c =
 
 emit-item-requires : tie.Need-emit-item-requires Inv-loop μ-loop
 emit-item-requires c κs =
-    let start = c .before .before .before .before .before .before in
-    let loop = c .before .before .loop in
+    let at-loop = c .before .before in
+    let start = to-start at-loop in
     left-next flattenItem FineItem encodeItem item-unique (start .args .n) (start .args .c)
-    (tableOf (start .args .table .now) [] (start .args .bytes .now)) _ _ _ _ (loop .inv) (omega arith)
+    (tableOf (start .args .table .now) [] (start .args .bytes .now)) _ _ _ _ (at-loop .loop .inv) (omega arith)
 
 loop-again : tie.Need-loop-again Inv-loop μ-loop
 loop-again c =
-    let start = c .before .before .before .before .before .before .before .before .before in
-    let loop = c .before .before .before .before .before .loop in
-    let emit-item = c .before .before .emit-item in
+    let after-emit-item = c .before .before in
+    let at-loop = after-emit-item .before .before .before in
+    let start = to-start at-loop in
     left-turn flattenItem FineItem encodeItem item-unique (start .args .n) (start .args .c)
-    (tableOf (start .args .table .now) [] (start .args .bytes .now)) _ _ _ _ (loop .inv) (omega arith) _ _ (emit-item .ensures)
+    (tableOf (start .args .table .now) [] (start .args .bytes .now)) _ _ _ _ (at-loop .loop .inv) (omega arith) _ _ (after-emit-item .emit-item .ensures)
 
 returns : tie.Need-returns Inv-loop μ-loop
 returns c =
-    let start = c .before .before .before .before .before in
+    let start = to-start (c .before) in
     left-done flattenItem FineItem encodeItem item-unique (start .args .n) (start .args .c)
     (tableOf (start .args .table .now) [] (start .args .bytes .now)) _ _ _ _ (c .before .loop .inv) (omega arith)
 

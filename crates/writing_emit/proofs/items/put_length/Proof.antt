@@ -1,3 +1,4 @@
+-- Type 128 has four bytes of length (`length-long`); any other has none, and nothing is written (`length-other`).
 use Rattle.writing_emit.proofs.Laws.Items.{length-long, length-other}
 use mathlib.Core.Path.{refl}
 use native.Mathlib.Omega.{arith}
@@ -13,10 +14,10 @@ put-u32-requires c κs =
 
 returns : tie.Need-returns
 returns c =
-    let start = c .before .before .before .before .before .before in
-    let if1 = c .before .before .before .before .if1 in
-    let put-u32 = c .before .before .put-u32 in
-    rw (← (length-long (start .args .kind) (if1 .taken))) ((refl, omega arith), put-u32 .ensures)
+    let after-put-u32 = c .before .before in
+    let then1 = after-put-u32 .before .before in
+    let start = then1 .before .before in
+    rw (← (length-long (start .args .kind) (then1 .if1 .taken))) ((refl, omega arith), after-put-u32 .put-u32 .ensures)
 
 returns-2 : tie.Need-returns-2
 returns-2 c = rw (← (length-other (c .before .before .args .kind) (c .if1 .left))) ((refl, omega arith), refl)

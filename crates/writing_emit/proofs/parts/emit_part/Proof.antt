@@ -1,3 +1,4 @@
+-- The part at the cursor fits its shape, so no sum wraps and there is room (`size-asks`); elements and then text are its bytes (`part-did`).
 use Rattle.writing_emit.proofs.Laws.Parts.{size-asks, part-some, part-asks, part-did}
 use Rattle.writing_emit.specs.Parts.{partBytes}
 use native.Mathlib.Omega.{arith}
@@ -5,36 +6,51 @@ use borrow.Author.Needs.{needs}
 use Rattle.writing_emit.proofs.parts.emit_part.Statement.{statement}
 use Rattle.writing_emit.proofs.parts.emit_part.Tie as tie
 
+abbrev start-from-shared-slice-known4 : tie.After-shared-slice-known4 → tie.Start
+start-from-shared-slice-known4 p = p .before .before .before .before .before
+
+abbrev start-from-point-size : tie.After-point-size → tie.Start
+start-from-point-size p = start-from-shared-slice-known4 (p .before .before)
+
+abbrev point-size-from-emit-text-arg : tie.After-emit-text-arg → tie.After-point-size
+point-size-from-emit-text-arg p = p .before .before .before .before .before .before
+
+abbrev to-emit-text : tie.After-struct-known2 → tie.After-emit-text
+to-emit-text p = p .before .before .before .before
+
+abbrev point-size-from-struct-known2 : tie.After-struct-known2 → tie.After-point-size
+point-size-from-struct-known2 p = point-size-from-emit-text-arg (to-emit-text p .before)
+
 shared-slice-read-count : tie.Need-shared-slice-read-count
 shared-slice-read-count c =
-    let start = c .before .before .before .before .before in
+    let start = start-from-shared-slice-known4 c in
     let a = part-some partBytes (start .args .table .now) (start .args .elements .now) (start .args .bytes .now) (start .args .s)
     (start .args .c) _ (start .pre) in
     omega (arith, a)
 
 shared-slice-read-n : tie.Need-shared-slice-read-n
 shared-slice-read-n c =
-    let start = c .before .before .before .before .before .before in
+    let start = start-from-shared-slice-known4 (c .before) in
     let a = part-some partBytes (start .args .table .now) (start .args .elements .now) (start .args .bytes .now) (start .args .s)
     (start .args .c) _ (start .pre) in
     omega (arith, a)
 
 mul-size : tie.Need-mul-size
 mul-size c =
-    let start = c .before .before .before .before .before .before .before in
+    let start = start-from-point-size c in
     let a = size-asks (start .args .table .now) (start .args .elements .now) (start .args .bytes .now) (start .args .s) (start .args .c) _
     (start .pre) _ (c .point-size .ensures .0) in
     omega (arith, a)
 
 elements-of-requires : tie.Need-elements-of-requires
 elements-of-requires c κs =
-    let start = c .before .before .before .before .before .before .before in
+    let start = start-from-point-size c in
     part-some partBytes (start .args .table .now) (start .args .elements .now) (start .args .bytes .now) (start .args .s) (start .args .c) _
     (start .pre) .1
 
 put-elements-requires : tie.Need-put-elements-requires
 put-elements-requires c κs =
-    let start = c .before .before .before .before .before .before .before .before .before in
+    let start = start-from-point-size (c .before .before) in
     let a = part-asks (start .args .table .now) (start .args .elements .now) (start .args .bytes .now) (start .args .s) (start .args .c) _
     (start .pre) in (
       a .0,
@@ -45,65 +61,49 @@ put-elements-requires c κs =
 
 add-emit-text : tie.Need-add-emit-text
 add-emit-text c =
-    let start = c .before .before .before .before .before .before .before .before .before .before .before .before .before in
-    let point-size = c .before .before .before .before .before .before .point-size in
+    let start = start-from-point-size (point-size-from-emit-text-arg c) in
     let a = size-asks (start .args .table .now) (start .args .elements .now) (start .args .bytes .now) (start .args .s) (start .args .c) _
-    (start .pre) _ (point-size .ensures .0) in
-    let g = start .good in
-    omega (arith, a, g)
+    (start .pre) _ (point-size-from-emit-text-arg c .point-size .ensures .0) in
+    omega (arith, a, start .good)
 
 emit-text-requires : tie.Need-emit-text-requires
 emit-text-requires c κs =
-    let start = c .before .before .before .before .before .before .before .before .before .before .before .before .before in
-    let point-size = c .before .before .before .before .before .before .point-size in
-    let put-elements = c .before .before .before .put-elements in
+    let start = start-from-point-size (point-size-from-emit-text-arg c) in
     let a = part-asks (start .args .table .now) (start .args .elements .now) (start .args .bytes .now) (start .args .s) (start .args .c) _
     (start .pre) in
     let b = size-asks (start .args .table .now) (start .args .elements .now) (start .args .bytes .now) (start .args .s) (start .args .c) _
-    (start .pre) _ (point-size .ensures .0) in
-    (a .1, a .2, omega (arith, b, put-elements .kept))
+    (start .pre) _ (point-size-from-emit-text-arg c .point-size .ensures .0) in
+    (a .1, a .2, omega (arith, b, c .before .before .before .put-elements .kept))
 
 add-t24 : tie.Need-add-t24
 add-t24 c =
-    let start = c .before .before .before .before .before .before .before .before .before .before .before .before .before .before .before
-    .before .before .before in
+    let start = start-from-point-size (point-size-from-struct-known2 c) in
     let a = part-asks (start .args .table .now) (start .args .elements .now) (start .args .bytes .now) (start .args .s) (start .args .c) _
     (start .pre) in
-    let g = start .good in
-    omega (arith, a .1, g)
+    omega (arith, a .1, start .good)
 
 add-t25 : tie.Need-add-t25
 add-t25 c =
-    let start = c .before .before .before .before .before .before .before .before .before .before .before .before .before .before .before
-    .before .before .before in
-    let point-size = c .before .before .before .before .before .before .before .before .before .before .before .point-size in
+    let start = start-from-point-size (point-size-from-struct-known2 c) in
     let a = size-asks (start .args .table .now) (start .args .elements .now) (start .args .bytes .now) (start .args .s) (start .args .c) _
-    (start .pre) _ (point-size .ensures .0) in
-    let g = start .good in
-    omega (arith, a, g)
+    (start .pre) _ (point-size-from-struct-known2 c .point-size .ensures .0) in
+    omega (arith, a, start .good)
 
 add-t26 : tie.Need-add-t26
 add-t26 c =
-    let start = c .before .before .before .before .before .before .before .before .before .before .before .before .before .before .before
-    .before .before .before in
-    let point-size = c .before .before .before .before .before .before .before .before .before .before .before .point-size in
-    let emit-text = c .before .before .before .before .emit-text in
+    let start = start-from-point-size (point-size-from-struct-known2 c) in
     let a = size-asks (start .args .table .now) (start .args .elements .now) (start .args .bytes .now) (start .args .s) (start .args .c) _
-    (start .pre) _ (point-size .ensures .0) in
-    let g = start .good in
-    omega (arith, a, emit-text .ensures .0, g)
+    (start .pre) _ (point-size-from-struct-known2 c .point-size .ensures .0) in
+    omega (arith, a, to-emit-text c .emit-text .ensures .0, start .good)
 
 returns : tie.Need-returns
 returns c =
-    let start = c .before .before .before .before .before .before .before .before .before .before .before .before .before .before .before
-    .before .before .before in
-    let point-size = c .before .before .before .before .before .before .before .before .before .before .before .point-size in
-    let elements-of = c .before .before .before .before .before .before .before .before .before .before .elements-of in
-    let put-elements = c .before .before .before .before .before .before .before .before .put-elements in
-    let emit-text = c .before .before .before .before .emit-text in
+    let after-emit-text = to-emit-text c in
+    let after-put-elements = after-emit-text .before .before .before .before in
+    let start = start-from-point-size (point-size-from-struct-known2 c) in
     part-did (start .args .table .now) (start .args .elements .now) (start .args .bytes .now) (start .args .s) (start .args .c) _
-    (start .pre) _ _ _ (point-size .ensures .0) (elements-of .ensures .0) (emit-text .ensures .0 .0) _ _ _ (put-elements .ensures)
-    (emit-text .ensures .1)
+    (start .pre) _ _ _ (point-size-from-struct-known2 c .point-size .ensures .0) (after-put-elements .before .before .elements-of .ensures .0)
+    (after-emit-text .emit-text .ensures .0 .0) _ _ _ (after-put-elements .put-elements .ensures) (after-emit-text .emit-text .ensures .1)
 
 pub emit-part-spec : {M : Type 1} → statement M
 emit-part-spec =

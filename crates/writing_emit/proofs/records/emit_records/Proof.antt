@@ -1,3 +1,4 @@
+-- The loop keeps `Left`: the records still to be written onto the slice as it is give the whole; one record a turn.
 use borrow.Author.Needs.{needs}
 use native.Mathlib.Omega.{arith}
 use Rattle.writing_emit.specs.Cursors.{tableOf}
@@ -10,10 +11,14 @@ use Rattle.writing_emit.proofs.records.emit_records.Statement.{statemen
 use Rattle.writing_emit.proofs.records.emit_records.Tie as tie
 
 abbrev Inv-loop : tie.InvT-loop
-Inv-loop table elements bytes n out₀ left₀ acc₀ out left acc = Left flattenRecord FineRecord encodeRecord record-unique n acc₀ (tableOf table elements bytes) out₀ left acc out
+Inv-loop table elements bytes n out₀ left₀ acc₀ out left acc = Left flattenRecord FineRecord encodeRecord record-unique n acc₀ (tableOf table elements bytes)
+    out₀ left acc out
 
 abbrev μ-loop : tie.MeasureT-loop
 μ-loop table elements bytes n out₀ left₀ acc₀ out left acc = left
+
+abbrev to-start : tie.At-loop Inv-loop μ-loop → tie.Start Inv-loop μ-loop
+to-start p = p .before .before .before .before .before
 
 loop-holds : tie.Need-loop-holds Inv-loop μ-loop
 loop-holds c =
@@ -23,23 +28,23 @@ loop-holds c =
 
 emit-record-requires : tie.Need-emit-record-requires Inv-loop μ-loop
 emit-record-requires c κs =
-    let start = c .before .before .before .before .before .before .before in
-    let loop = c .before .before .loop in
+    let at-loop = c .before .before in
+    let start = to-start at-loop in
     left-next flattenRecord FineRecord encodeRecord record-unique (start .args .n) (start .args .c)
-    (tableOf (start .args .table .now) (start .args .elements .now) (start .args .bytes .now)) _ _ _ _ (loop .inv) (omega arith)
+    (tableOf (start .args .table .now) (start .args .elements .now) (start .args .bytes .now)) _ _ _ _ (at-loop .loop .inv) (omega arith)
 
 loop-again : tie.Need-loop-again Inv-loop μ-loop
 loop-again c =
-    let start = c .before .before .before .before .before .before .before .before .before .before in
-    let loop = c .before .before .before .before .before .loop in
-    let emit-record = c .before .before .emit-record in
+    let after-emit-record = c .before .before in
+    let at-loop = after-emit-record .before .before .before in
+    let start = to-start at-loop in
     left-turn flattenRecord FineRecord encodeRecord record-unique (start .args .n) (start .args .c)
-    (tableOf (start .args .table .now) (start .args .elements .now) (start .args .bytes .now)) _ _ _ _ (loop .inv) (omega arith) _ _
-    (emit-record .ensures)
+    (tableOf (start .args .table .now) (start .args .elements .now) (start .args .bytes .now)) _ _ _ _ (at-loop .loop .inv) (omega arith) _ _
+    (after-emit-record .emit-record .ensures)
 
 returns : tie.Need-returns Inv-loop μ-loop
 returns c =
-    let start = c .before .before .before .before .before .before in
+    let start = to-start (c .before) in
     left-done flattenRecord FineRecord encodeRecord record-unique (start .args .n) (start .args .c)
     (tableOf (start .args .table .now) (start .args .elements .now) (start .args .bytes .now)) _ _ _ _ (c .before .loop .inv) (omega arith)
 

@@ -1,3 +1,4 @@
+-- The number read is the reference number of the row that starts at the index (`nth-at`), so its shape is the record's.
 use mathlib.Core.Path.{_∙_, ap}
 use Rattle.writing_emit.proofs.Laws.Headers.{nth-at}
 use Rattle.fields.specs.Shapes.{shapeOf}

@@ -1,3 +1,4 @@
+-- A text shorter than its field is good exactly if all of it stands before its first zero (`short-text`); a longer one never is (`long-text`).
 use denote.Ref.{now}
 use native.Mathlib.Omega.{arith}
 use Rattle.writing_head.proofs.Laws.Texts.{short-text, long-text}

@@ -1,3 +1,4 @@
+-- The one rule tests what `is_text` answers, and that is the definition's own test.
 use borrow.Author.Needs.{needs}
 use Rattle.writing_head.proofs.check.text_fits.Statement.{statement}
 use Rattle.writing_head.proofs.check.text_fits.Tie as tie

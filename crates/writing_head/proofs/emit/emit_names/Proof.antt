@@ -1,3 +1,4 @@
+-- `Sofar` grows from 28 on by designation, scale, title and rest; both texts are padded to 32 bytes, and the rest is copied whole (`whole`).
 use denote.Ref.{now}
 use mathlib.Core.Path.{refl}
 use Rattle.writing_head.proofs.Laws.Sofar.{first, next, padded-length, whole}
@@ -10,18 +11,18 @@ use Rattle.writing_head.proofs.emit.emit_names.Tie as tie
 
 returns : tie.Need-returns
 returns c =
-    let start = c .before .before .before .before .before .before .before .before .before .before .before .before .before .before .before
-    .before .before .before .before .before in
-    let put-text = c .before .before .before .before .before .before .before .before .before .before .before .before .before .before .put-text in
-    let put-u32 = c .before .before .before .before .before .before .before .before .before .before .put-u32 in
-    let put-text2 = c .before .before .before .before .before .before .put-text2 in
-    let put-bytes = c .before .before .put-bytes in
+    let after-put-bytes = c .before .before in
+    let after-put-text2 = after-put-bytes .before .before .before .before in
+    let after-put-u32 = after-put-text2 .before .before .before .before in
+    let after-put-text = after-put-u32 .before .before .before .before in
+    let start = after-put-text .before .before .before .before .before .before in
     let a = first (now (start .args .out)) 28 (padded Passport.designation (now (start .args .designation))) 32 _
-    (padded-length (now (start .args .designation)) 32 (start .pre .0)) (put-text .ensures) in
-    let b = next a (bytes 4 (start .args .scale)) 4 _ refl (put-u32 .ensures) in
+    (padded-length (now (start .args .designation)) 32 (start .pre .0)) (after-put-text .put-text .ensures) in
+    let b = next a (bytes 4 (start .args .scale)) 4 _ refl (after-put-u32 .put-u32 .ensures) in
     let d = next b (padded Passport.title (now (start .args .title))) 32 _ (padded-length (now (start .args .title)) 32 (start .pre .1))
-    (put-text2 .ensures) in
-    next d (now (start .args .rest)) 304 _ (start .pre .2) (rw (whole (now (start .args .rest)) 304 (start .pre .2)) at (put-bytes .ensures)) .is
+    (after-put-text2 .put-text2 .ensures) in
+    next d (now (start .args .rest)) 304 _ (start .pre .2)
+    (rw (whole (now (start .args .rest)) 304 (start .pre .2)) at (after-put-bytes .put-bytes .ensures)) .is
 
 pub emit-names-spec : {M : Type 1} → statement M
 emit-names-spec =

@@ -1,3 +1,4 @@
+-- `Sofar` grows from 0 on by four numbers of four bytes and the date, which is padded to twelve.
 use Rattle.layout.specs.Bytes.{bytes}
 use Rattle.layout.specs.Fields.Passport
 use Rattle.layout.specs.Shared.Texts.{padded}
@@ -10,19 +11,18 @@ use Rattle.writing_head.proofs.emit.emit_start.Tie as tie
 
 returns : tie.Need-returns
 returns c =
-    let start = c .before .before .before .before .before .before .before .before .before .before .before .before .before .before .before
-    .before .before .before .before .before .before .before in
-    let put-u32 = c .before .before .before .before .before .before .before .before .before .before .before .before .before .before .before
-    .before .before .before .put-u32 in
-    let put-u322 = c .before .before .before .before .before .before .before .before .before .before .before .before .before .before .put-u322 in
-    let put-u323 = c .before .before .before .before .before .before .before .before .before .before .put-u323 in
-    let put-u324 = c .before .before .before .before .before .before .put-u324 in
-    let put-text = c .before .before .put-text in
-    let a = first (now (start .args .out)) 0 (bytes 4 0x00465853) 4 _ refl (put-u32 .ensures) in
-    let b = next a (bytes 4 400) 4 _ refl (put-u322 .ensures) in
-    let d = next b (bytes 4 0x00040000) 4 _ refl (put-u323 .ensures) in
-    let e = next d (bytes 4 0) 4 _ refl (put-u324 .ensures) in
-    next e (padded Passport.date (now (start .args .date))) 12 _ (padded-length (now (start .args .date)) 12 (start .pre .0)) (put-text .ensures) .is
+    let after-put-text = c .before .before in
+    let after-put-u324 = after-put-text .before .before .before .before in
+    let after-put-u323 = after-put-u324 .before .before .before .before in
+    let after-put-u322 = after-put-u323 .before .before .before .before in
+    let after-put-u32 = after-put-u322 .before .before .before .before in
+    let start = after-put-u32 .before .before .before .before in
+    let a = first (now (start .args .out)) 0 (bytes 4 0x00465853) 4 _ refl (after-put-u32 .put-u32 .ensures) in
+    let b = next a (bytes 4 400) 4 _ refl (after-put-u322 .put-u322 .ensures) in
+    let d = next b (bytes 4 0x00040000) 4 _ refl (after-put-u323 .put-u323 .ensures) in
+    let e = next d (bytes 4 0) 4 _ refl (after-put-u324 .put-u324 .ensures) in
+    next e (padded Passport.date (now (start .args .date))) 12 _ (padded-length (now (start .args .date)) 12 (start .pre .0))
+    (after-put-text .put-text .ensures) .is
 
 pub emit-start-spec : {M : Type 1} → statement M
 emit-start-spec =

@@ -1,3 +1,4 @@
+-- The slice that is summed is the first n bytes, no longer than the limit; what is put at 12 is then the sum of just these bytes.
 use Prim.Native.Nat.{ℕ}
 use mathlib.Core.Path.{sym, ap, _∙_}
 use lib.Seq.{sets, length-take-le}
@@ -21,11 +22,11 @@ sheet-sum-requires c κs =
 
 returns : tie.Need-returns
 returns c =
-    let start = c .before .before .before .before .before .before .before in
-    let sheet-sum = c .before .before .before .before .sheet-sum in
-    let put-u32 = c .before .before .put-u32 in
+    let after-put-u32 = c .before .before in
+    let after-sheet-sum = after-put-u32 .before .before in
+    let start = after-sheet-sum .before .before .before in
     let out = now (start .args .out) in
-    put-u32 .ensures ∙ ap (λ (v : ℕ). sets out 12 (bytes 4 v)) (sheet-sum .ensures)
+    after-put-u32 .put-u32 .ensures ∙ ap (λ (v : ℕ). sets out 12 (bytes 4 v)) (after-sheet-sum .sheet-sum .ensures)
 
 pub emit-sum-spec : {M : Type 1} → statement M
 emit-sum-spec =

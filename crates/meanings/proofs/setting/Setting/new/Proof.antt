@@ -1,3 +1,4 @@
+-- Each of the nine years is answered by the setting of that very year (`made`), and any other year by the refusal ASK (`not-made`).
 use mathlib.Core.Path.{refl}
 use Rattle.meanings.proofs.Laws.Settings.{made, not-made}
 use Rattle.meanings.proofs.setting.Setting.new.Statement.{statement}
