@@ -1,168 +1,109 @@
 -- Three ways out: the measure refuses, the slice is too short (`short-right`), or the sheet is `Ready` and its bytes are emitted (`written-right`).
 use denote.Ref.{now}
+use mathlib.Core.List.{List}
+use mathlib.Core.Path.{_≡_}
 use native.Mathlib.Omega.{arith}
+use Prim.Native.Nat.{ℕ, _<_, _^_}
 use Rattle.layout.specs.Answers.Lent.{headOf}
-use Rattle.laws.proofs.Base.Numbers.{all-bytes}
+use Rattle.layout.specs.Bytes.{Bytes}
+use Rattle.layout.specs.Sheet.{Head, Table}
+use Rattle.layout.specs.Walk.{answer, upTo}
+use Rattle.layout.specs.Writing.Sheets.{tableWalk}
 use Rattle.layout.specs.Writing.Tables.{table}
+use Rattle.laws.proofs.Base.Numbers.{all-bytes}
+use Rattle.laws.proofs.Writing.Sheets.{Typed}
 use Rattle.writing.proofs.Laws.Answered.{refused-right, within, ready, short-right, written-right}
 use Rattle.writing.proofs.Laws.Measured.{typed-head}
+use Rattle.writing.specs.Ready.{measuredOf}
 use borrow.Author.Needs.{needs}
 use Rattle.writing.proofs.sheets.write_at.Statement.{statement}
 use Rattle.writing.proofs.sheets.write_at.Tie as tie
 
-abbrev to-shared-slice-known9 : tie.After-measure → tie.After-shared-slice-known9
-to-shared-slice-known9 p = p .before .before
+-- what is known once the sheet is measured: every answer below speaks of it
+abbrev lent9 : tie.After-measure → tie.After-shared-slice-known9
+lent9 m = m .before .before
 
-abbrev to-shared-slice-known6 : tie.After-measure → tie.After-shared-slice-known6
-to-shared-slice-known6 p = to-shared-slice-known9 p .before .before .before
+abbrev lent6 : tie.After-measure → tie.After-shared-slice-known6
+lent6 m = lent9 m .before .before .before
 
-abbrev to-shared-slice-known5 : tie.After-measure → tie.After-shared-slice-known5
-to-shared-slice-known5 p = to-shared-slice-known6 p .before
+abbrev lent4 : tie.After-measure → tie.After-shared-slice-known4
+lent4 m = lent6 m .before .before
 
-abbrev to-shared-slice-known4 : tie.After-measure → tie.After-shared-slice-known4
-to-shared-slice-known4 p = to-shared-slice-known5 p .before
+abbrev lent2 : tie.After-measure → tie.After-shared-slice-known2
+lent2 m = lent4 m .before .before
 
-abbrev to-shared-slice-known3 : tie.After-measure → tie.After-shared-slice-known3
-to-shared-slice-known3 p = to-shared-slice-known4 p .before
+abbrev entry : tie.After-measure → tie.Start
+entry m = lent2 m .before .before
 
-abbrev to-shared-slice-known2 : tie.After-measure → tie.After-shared-slice-known2
-to-shared-slice-known2 p = to-shared-slice-known3 p .before
+abbrev head : tie.After-measure → Head
+head m =
+    headOf (now (entry m .args .date)) (now (entry m .args .designation)) (entry m .args .scale) (now (entry m .args .title)) (now (entry m .args .rest))
+    (now (entry m .args .designation2)) (now (entry m .args .carried))
 
-abbrev to-shared-slice-known : tie.After-measure → tie.After-shared-slice-known
-to-shared-slice-known p = to-shared-slice-known2 p .before
+abbrev rows : tie.After-measure → Table
+rows m = table (now (entry m .args .table)) (now (entry m .args .elements)) (now (entry m .args .bytes))
 
-abbrev to-start : tie.After-measure → tie.Start
-to-start p = to-shared-slice-known p .before
+abbrev out : tie.After-measure → List ℕ
+out m = now (entry m .args .out)
 
-abbrev to-measure : tie.After-t → tie.After-measure
-to-measure p = p .before .before
+abbrev year : tie.After-measure → ℕ
+year m = entry m .args .year
+
+scaled : (m : tie.After-measure) → entry m .args .scale < 256 ^ 4
+scaled m = omega (arith, entry m .good)
+
+typed : (m : tie.After-measure) → Typed (head m)
+typed m =
+    let a = entry m .args in
+    typed-head (now (a .date)) (now (a .designation)) (a .scale) (now (a .title)) (now (a .rest)) (now (a .designation2)) (now (a .carried))
+    (all-bytes (now (a .date)) (λ i. omega (arith, lent2 m .before .shared-slice-known .given i)))
+    (all-bytes (now (a .designation)) (λ i. omega (arith, lent2 m .shared-slice-known2 .given i)))
+    (scaled m)
+    (all-bytes (now (a .title)) (λ i. omega (arith, lent4 m .before .shared-slice-known3 .given i)))
+    (entry m .pre .0, all-bytes (now (a .rest)) (λ i. omega (arith, lent4 m .shared-slice-known4 .given i)))
+    (all-bytes (now (a .designation2)) (λ i. omega (arith, lent6 m .before .shared-slice-known5 .given i)))
+    (entry m .pre .1, all-bytes (now (a .carried)) (λ i. omega (arith, lent6 m .shared-slice-known6 .given i)))
+
+pool : (m : tie.After-measure) → Bytes (now (entry m .args .bytes))
+pool m = all-bytes (now (entry m .args .bytes)) (λ i. omega (arith, lent9 m .shared-slice-known9 .given i))
+
+means : (m : tie.After-measure) → m .measure .result ≡ measuredOf (answer (upTo (year m)) (tableWalk (head m) (rows m)))
+means m = m .measure .ensures (entry m .args .scale) (scaled m)
+
+-- the totals are measured
+abbrev measured : tie.After-t → tie.After-measure
+measured p = p .before .before
 
 add-n : tie.Need-add-n
 add-n c =
-    let after-t = c .before .before in
-    let after-measure = to-measure after-t in
-    let start = to-start after-measure in
-    let date = now (start .args .date) in
-    let designation = now (start .args .designation) in
-    let scale = start .args .scale in
-    let title = now (start .args .title) in
-    let rest = now (start .args .rest) in
-    let designation2 = now (start .args .designation2) in
-    let carried = now (start .args .carried) in
-    let h = headOf date designation scale title rest designation2 carried in
-    let t = table (now (start .args .table)) (now (start .args .elements)) (now (start .args .bytes)) in
-    let o = now (start .args .out) in
-    let means = after-measure .measure .ensures scale (omega arith) in
-    let typed = typed-head date designation scale title rest designation2 carried
-    (all-bytes date (λ i. omega (arith, to-shared-slice-known after-measure .shared-slice-known .given i)))
-    (all-bytes designation (λ i. omega (arith, to-shared-slice-known2 after-measure .shared-slice-known2 .given i)))
-    (omega arith)
-    (all-bytes title (λ i. omega (arith, to-shared-slice-known3 after-measure .shared-slice-known3 .given i)))
-    (start .pre .0, all-bytes rest (λ i. omega (arith, to-shared-slice-known4 after-measure .shared-slice-known4 .given i)))
-    (all-bytes designation2 (λ i. omega (arith, to-shared-slice-known5 after-measure .shared-slice-known5 .given i)))
-    (start .pre .1, all-bytes carried (λ i. omega (arith, to-shared-slice-known6 after-measure .shared-slice-known6 .given i))) in
-    let bs = all-bytes (now (start .args .bytes)) (λ i. omega (arith, to-shared-slice-known9 after-measure .shared-slice-known9 .given i)) in
-    omega (arith, within (start .args .year) h t o (after-measure .measure .result) means typed bs _ (after-t .t .given .1))
+    let totals = c .before .before in
+    let m = measured totals in
+    omega (arith, within (year m) (head m) (rows m) (out m) (m .measure .result) (means m) (typed m) (pool m) _ (totals .t .given .1))
 
 returns : tie.Need-returns
 returns c =
-    let after-t = c .before .before .before in
-    let after-measure = to-measure after-t in
-    let start = to-start after-measure in
-    let date = now (start .args .date) in
-    let designation = now (start .args .designation) in
-    let scale = start .args .scale in
-    let title = now (start .args .title) in
-    let rest = now (start .args .rest) in
-    let designation2 = now (start .args .designation2) in
-    let carried = now (start .args .carried) in
-    let h = headOf date designation scale title rest designation2 carried in
-    let t = table (now (start .args .table)) (now (start .args .elements)) (now (start .args .bytes)) in
-    let o = now (start .args .out) in
-    let means = after-measure .measure .ensures scale (omega arith) in
-    let typed = typed-head date designation scale title rest designation2 carried
-    (all-bytes date (λ i. omega (arith, to-shared-slice-known after-measure .shared-slice-known .given i)))
-    (all-bytes designation (λ i. omega (arith, to-shared-slice-known2 after-measure .shared-slice-known2 .given i)))
-    (omega arith)
-    (all-bytes title (λ i. omega (arith, to-shared-slice-known3 after-measure .shared-slice-known3 .given i)))
-    (start .pre .0, all-bytes rest (λ i. omega (arith, to-shared-slice-known4 after-measure .shared-slice-known4 .given i)))
-    (all-bytes designation2 (λ i. omega (arith, to-shared-slice-known5 after-measure .shared-slice-known5 .given i)))
-    (start .pre .1, all-bytes carried (λ i. omega (arith, to-shared-slice-known6 after-measure .shared-slice-known6 .given i))) in
-    let bs = all-bytes (now (start .args .bytes)) (λ i. omega (arith, to-shared-slice-known9 after-measure .shared-slice-known9 .given i)) in
-    short-right (start .args .year) h t o (after-measure .measure .result) means typed bs _ (after-t .t .given .1) (omega arith)
+    let totals = c .before .before .before in
+    let m = measured totals in
+    short-right (year m) (head m) (rows m) (out m) (m .measure .result) (means m) (typed m) (pool m) _ (totals .t .given .1) (omega arith)
 
 emit-sheet-requires : tie.Need-emit-sheet-requires
 emit-sheet-requires c κs =
-    let after-t = c .before .before .before .before in
-    let after-measure = to-measure after-t in
-    let start = to-start after-measure in
-    let date = now (start .args .date) in
-    let designation = now (start .args .designation) in
-    let scale = start .args .scale in
-    let title = now (start .args .title) in
-    let rest = now (start .args .rest) in
-    let designation2 = now (start .args .designation2) in
-    let carried = now (start .args .carried) in
-    let h = headOf date designation scale title rest designation2 carried in
-    let t = table (now (start .args .table)) (now (start .args .elements)) (now (start .args .bytes)) in
-    let o = now (start .args .out) in
-    let means = after-measure .measure .ensures scale (omega arith) in
-    let typed = typed-head date designation scale title rest designation2 carried
-    (all-bytes date (λ i. omega (arith, to-shared-slice-known after-measure .shared-slice-known .given i)))
-    (all-bytes designation (λ i. omega (arith, to-shared-slice-known2 after-measure .shared-slice-known2 .given i)))
-    (omega arith)
-    (all-bytes title (λ i. omega (arith, to-shared-slice-known3 after-measure .shared-slice-known3 .given i)))
-    (start .pre .0, all-bytes rest (λ i. omega (arith, to-shared-slice-known4 after-measure .shared-slice-known4 .given i)))
-    (all-bytes designation2 (λ i. omega (arith, to-shared-slice-known5 after-measure .shared-slice-known5 .given i)))
-    (start .pre .1, all-bytes carried (λ i. omega (arith, to-shared-slice-known6 after-measure .shared-slice-known6 .given i))) in
-    let bs = all-bytes (now (start .args .bytes)) (λ i. omega (arith, to-shared-slice-known9 after-measure .shared-slice-known9 .given i)) in
-    ready (start .args .year) h t o (after-measure .measure .result) means typed bs _ (after-t .t .given .1) (omega arith)
+    let totals = c .before .before .before .before in
+    let m = measured totals in
+    ready (year m) (head m) (rows m) (out m) (m .measure .result) (means m) (typed m) (pool m) _ (totals .t .given .1) (omega arith)
 
 returns-2 : tie.Need-returns-2
 returns-2 c =
-    let after-emit-sheet = c .before .before in
-    let after-t = after-emit-sheet .before .before .before .before .before in
-    let after-measure = to-measure after-t in
-    let start = to-start after-measure in
-    let date = now (start .args .date) in
-    let designation = now (start .args .designation) in
-    let scale = start .args .scale in
-    let title = now (start .args .title) in
-    let rest = now (start .args .rest) in
-    let designation2 = now (start .args .designation2) in
-    let carried = now (start .args .carried) in
-    let h = headOf date designation scale title rest designation2 carried in
-    let t = table (now (start .args .table)) (now (start .args .elements)) (now (start .args .bytes)) in
-    let o = now (start .args .out) in
-    let means = after-measure .measure .ensures scale (omega (arith, start .good)) in
-    let typed = typed-head date designation scale title rest designation2 carried
-    (all-bytes date (λ i. omega (arith, to-shared-slice-known after-measure .shared-slice-known .given i)))
-    (all-bytes designation (λ i. omega (arith, to-shared-slice-known2 after-measure .shared-slice-known2 .given i)))
-    (omega (arith, start .good))
-    (all-bytes title (λ i. omega (arith, to-shared-slice-known3 after-measure .shared-slice-known3 .given i)))
-    (start .pre .0, all-bytes rest (λ i. omega (arith, to-shared-slice-known4 after-measure .shared-slice-known4 .given i)))
-    (all-bytes designation2 (λ i. omega (arith, to-shared-slice-known5 after-measure .shared-slice-known5 .given i)))
-    (start .pre .1, all-bytes carried (λ i. omega (arith, to-shared-slice-known6 after-measure .shared-slice-known6 .given i))) in
-    let bs = all-bytes (now (start .args .bytes)) (λ i. omega (arith, to-shared-slice-known9 after-measure .shared-slice-known9 .given i)) in
-    written-right (start .args .year) h t o (after-measure .measure .result) means typed bs _ (after-t .t .given .1) _ (omega arith)
-    (after-emit-sheet .emit-sheet .ensures)
+    let emitted = c .before .before in
+    let totals = emitted .before .before .before .before .before in
+    let m = measured totals in
+    written-right (year m) (head m) (rows m) (out m) (m .measure .result) (means m) (typed m) (pool m) _ (totals .t .given .1) _ (omega arith)
+    (emitted .emit-sheet .ensures)
 
 returns-3 : tie.Need-returns-3
 returns-3 c =
-    let after-measure = c .before .before .before in
-    let start = to-start after-measure in
-    let date = now (start .args .date) in
-    let designation = now (start .args .designation) in
-    let scale = start .args .scale in
-    let title = now (start .args .title) in
-    let rest = now (start .args .rest) in
-    let designation2 = now (start .args .designation2) in
-    let carried = now (start .args .carried) in
-    let h = headOf date designation scale title rest designation2 carried in
-    let t = table (now (start .args .table)) (now (start .args .elements)) (now (start .args .bytes)) in
-    let o = now (start .args .out) in
-    let means = after-measure .measure .ensures scale (omega arith) in
-    refused-right (start .args .year) h t o (after-measure .measure .result) means _ (c .before .r .given .1)
+    let m = c .before .before .before in
+    refused-right (year m) (head m) (rows m) (out m) (m .measure .result) (means m) _ (c .before .r .given .1)
 
 pub write-at-spec : {M : Type 1} → statement M
 write-at-spec =
