@@ -1,14 +1,93 @@
-// Elements of the pool as the bytes of a width. One tight loop each; which loop is chosen once a part.
+// Elements of a width, both ways: from the bytes of a sheet to the pool (read) and from the pool to bytes (put). One tight loop each; which
+// loop is chosen once a part.
 ghost use mathlib.Core.List.{[], _∷_};
 ghost use mathlib.Core.Path.{_≡_};
 ghost use Prim.Native.Nat.{_+_, _*_, _≤_, _<_, _^_};
 ghost use lib.ListN.{length, drop, take};
 ghost use lib.Seq.{sets};
 ghost use Rattle.fields.specs.Shapes.{dimensions, widthsOf, pointOf};
-ghost use Rattle.layout.specs.Bytes.{storedAll, repeat};
+ghost use Rattle.layout.specs.Bytes.{numbers, storedAll, repeat};
 use crate::numbers;
 use crate::shapes;
 use crate::shapes::Shape;
+
+// Fills n elements of the pool, from w on, with the two-byte numbers that start at `at`.
+pub fn read2(xs: &[u8], at: usize, n: usize, out: &mut [u64], w: usize)
+    requires { ⌜ (at + 2 * n ≤ length (now xs)) × (w + n ≤ length (now out)) ⌝ }
+    ensures { λ _. ⌜ now (out .exit) ≡ sets (now (out .entry)) w (numbers (repeat n (2 ∷ [])) (drop at (now (xs .entry)))) ⌝ }
+{
+    let mut i: usize = 0;
+    while i < n {
+        let x = numbers::u16_at(xs, at + 2 * i);
+        out[w + i] = x as u64;
+        i += 1;
+    }
+}
+
+// The same with four-byte numbers.
+pub fn read4(xs: &[u8], at: usize, n: usize, out: &mut [u64], w: usize)
+    requires { ⌜ (at + 4 * n ≤ length (now xs)) × (w + n ≤ length (now out)) ⌝ }
+    ensures { λ _. ⌜ now (out .exit) ≡ sets (now (out .entry)) w (numbers (repeat n (4 ∷ [])) (drop at (now (xs .entry)))) ⌝ }
+{
+    let mut i: usize = 0;
+    while i < n {
+        let x = numbers::u32_at(xs, at + 4 * i);
+        out[w + i] = x as u64;
+        i += 1;
+    }
+}
+
+// The same with eight-byte numbers.
+pub fn read8(xs: &[u8], at: usize, n: usize, out: &mut [u64], w: usize)
+    requires { ⌜ (at + 8 * n ≤ length (now xs)) × (w + n ≤ length (now out)) ⌝ }
+    ensures { λ _. ⌜ now (out .exit) ≡ sets (now (out .entry)) w (numbers (repeat n (8 ∷ [])) (drop at (now (xs .entry)))) ⌝ }
+{
+    let mut i: usize = 0;
+    while i < n {
+        out[w + i] = numbers::u64_at(xs, at + 8 * i);
+        i += 1;
+    }
+}
+
+// n points of two elements of two bytes and a height of four: the one kind of point whose elements are not all of one width.
+pub fn read_points(xs: &[u8], at: usize, n: usize, out: &mut [u64], w: usize)
+    requires { ⌜ (at + 8 * n ≤ length (now xs)) × (w + 3 * n ≤ length (now out)) ⌝ }
+    ensures { λ _. ⌜ now (out .exit) ≡ sets (now (out .entry)) w (numbers (repeat n (2 ∷ 2 ∷ 4 ∷ [])) (drop at (now (xs .entry)))) ⌝ }
+{
+    let mut i: usize = 0;
+    while i < n {
+        let k = at + 8 * i;
+        let x = numbers::u16_at(xs, k);
+        let y = numbers::u16_at(xs, k + 2);
+        let h = numbers::u32_at(xs, k + 4);
+        let o = w + 3 * i;
+        out[o] = x as u64;
+        out[o + 1] = y as u64;
+        out[o + 2] = h as u64;
+        i += 1;
+    }
+}
+
+// Fills the elements of so many points of a shape, by the loop for their width.
+pub fn read_elements(xs: &[u8], at: usize, count: usize, s: Shape, out: &mut [u64], w: usize)
+    requires { ⌜ (at + count * pointOf s ≤ length (now xs)) × (w + count * length (widthsOf s) ≤ length (now out)) × (count < 2 ^ 32) ⌝ }
+    ensures { λ _. ⌜ now (out .exit) ≡ sets (now (out .entry)) w (numbers (repeat count (widthsOf s)) (drop at (now (xs .entry)))) ⌝ }
+{
+    let n = shapes::elements_of(count, s.three);
+    if s.size {
+        if s.float {
+            read8(xs, at, n, out, w);
+        } else {
+            read4(xs, at, n, out, w);
+        }
+    } else if s.float {
+        read4(xs, at, n, out, w);
+    } else if s.three {
+        read_points(xs, at, count, out, w);
+    } else {
+        read2(xs, at, n, out, w);
+    }
+}
 
 // Writes the n elements of the pool that start at `at` as two bytes each, from w on. An element that is wider loses its upper bytes, so
 // the caller has seen that all fit.

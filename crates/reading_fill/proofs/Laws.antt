@@ -1,5 +1,5 @@
 -- Laws that the functions' proofs cite.
-pub mod Elements
+pub mod Texts
 pub mod Moves
 pub mod Parts
 pub mod Loops

@@ -6,7 +6,6 @@
 pub mod cursors;
 pub mod items;
 pub mod parts;
-pub mod pools;
 pub mod records;
 pub mod rows;
 pub mod sheets;

@@ -10,35 +10,14 @@ ghost use Rattle.fields.specs.Shapes.{widthsOf, pointOf};
 ghost use Rattle.layout.specs.Bytes.{numbers, repeat};
 ghost use Rattle.layout.specs.Writing.Tables.{joined, flattenPart};
 use crate::cursors::Cursor;
-use crate::pools;
 use crate::rows;
 use fields::copies;
+use fields::elements;
 use fields::numbers;
 use fields::shapes;
 use fields::shapes::Shape;
 use layout::row;
 use layout::subobject;
-
-// Fills the elements of so many points of a shape, by the loop for their width.
-pub fn put_elements(xs: &[u8], at: usize, count: usize, s: Shape, out: &mut [u64], w: usize)
-    requires { ⌜ (at + count * pointOf s ≤ length (now xs)) × (w + count * length (widthsOf s) ≤ length (now out)) × (count < 2 ^ 32) ⌝ }
-    ensures { λ _. ⌜ now (out .exit) ≡ sets (now (out .entry)) w (numbers (repeat count (widthsOf s)) (drop at (now (xs .entry)))) ⌝ }
-{
-    let n = shapes::elements_of(count, s.three);
-    if s.size {
-        if s.float {
-            pools::put8(xs, at, n, out, w);
-        } else {
-            pools::put4(xs, at, n, out, w);
-        }
-    } else if s.float {
-        pools::put4(xs, at, n, out, w);
-    } else if s.three {
-        pools::put_points(xs, at, count, out, w);
-    } else {
-        pools::put2(xs, at, n, out, w);
-    }
-}
 
 // The text that starts at a place with its length byte, if there are texts; its length comes back.
 pub fn fill_text(xs: &[u8], at: usize, text: bool, out: &mut [u8], w: usize) -> usize
@@ -87,7 +66,7 @@ pub fn fill_part(
     let b = c.bytes;
     let size = count * shapes::point_size(s);
     let n = shapes::elements_of(count, s.three);
-    put_elements(xs, at, count, s, elements, e);
+    elements::read_elements(xs, at, count, s, elements, e);
     let l = fill_text(xs, at + size, s.text, bytes, b);
     rows::put_part(table, w, count, l);
     let t = text_size(s.text, l);

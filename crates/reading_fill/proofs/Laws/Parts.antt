@@ -17,7 +17,7 @@ use Rattle.layout.specs.Bytes.{number, numbers, repeat}
 use Rattle.layout.specs.Sheet.{Table}
 use Rattle.layout.specs.Writing.Tables.{table, flattenPart}
 use Rattle.laws.proofs.Base.Numbers.{length-numbers, length-repeat}
-use Rattle.reading_fill.proofs.Laws.Elements.{text-takes}
+use Rattle.reading_fill.proofs.Laws.Texts.{text-takes}
 
 module _ (xs : List ℕ) (s : Shape) (count : ℕ) (c : Cursor) where
   -- the part's text starts after its points

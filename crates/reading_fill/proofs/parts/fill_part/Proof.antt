@@ -29,8 +29,8 @@ mul-size c =
     (start .pre .0) in
     omega (arith, a .3)
 
-put-elements-requires : tie.Need-put-elements-requires
-put-elements-requires c κs =
+read-elements-requires : tie.Need-read-elements-requires
+read-elements-requires c κs =
     let after-point-size = c .before .before in
     let start = to-start after-point-size in
     let a = part-asks (start .args .xs .now) (start .args .s) (start .args .count) (start .args .c) _ _ _ _ _ (after-point-size .point-size .ensures .0)
@@ -110,7 +110,7 @@ returns c =
           (after-elements-of .elements-of .ensures .0) (after-fill-text .fill-text .ensures .0 .0) (c .text-size .ensures .0) (start .pre .0 .place),
       part-wrote (start .args .xs .now) (start .args .s) (start .args .count) (start .args .c) _ _ _ _ (after-point-size .point-size .ensures .0)
           (after-elements-of .elements-of .ensures .0) (after-fill-text .fill-text .ensures .0 .0) (c .text-size .ensures .0) _ _ _ _ _ _
-          (c .before .before .before .put-part .ensures) (after-fill-text .before .before .before .before .put-elements .ensures)
+          (c .before .before .before .put-part .ensures) (after-fill-text .before .before .before .before .read-elements .ensures)
           (after-fill-text .fill-text .ensures .1),
     )
 
@@ -121,7 +121,7 @@ fill-part-spec =
     (λ c κs. search needs)
     mul-size
     (λ c κs. search needs)
-    put-elements-requires
+    read-elements-requires
     add-fill-text
     fill-text-requires
     put-part-requires

@@ -1,6 +1,6 @@
 -- Without the bit nothing is written; with it the text is as many bytes as its length byte says, right after that byte (`text-is`, `text-ask`).
 use native.Mathlib.Omega.{arith}
-use Rattle.reading_fill.proofs.Laws.Elements.{text-some, text-is, text-length, text-ask}
+use Rattle.reading_fill.proofs.Laws.Texts.{text-some, text-is, text-length, text-ask}
 use mathlib.Core.Path.{refl}
 use borrow.Author.Needs.{needs}
 use Rattle.reading_fill.proofs.parts.fill_text.Statement.{statement}

@@ -5,9 +5,9 @@ use mathlib.Core.List.{[], _∷_}
 use native.Mathlib.Nat.{one-mul}
 use native.Mathlib.Omega.{arith}
 use borrow.Author.Needs.{needs}
 use Rattle.fields.proofs.Laws.Put.{Putting, put-start, put-turn, put-done}
-use Rattle.reading_fill.proofs.pools.put2.Statement.{statement}
-use Rattle.reading_fill.proofs.pools.put2.Tie as tie
+use Rattle.fields.proofs.elements.read2.Statement.{statement}
+use Rattle.fields.proofs.elements.read2.Tie as tie
 
 abbrev Inv-loop : tie.InvT-loop
 Inv-loop xs at n out₀ w i₀ out i = Putting (2 ∷ []) xs at n w out₀ i out
@@ -24,8 +24,8 @@ loop-again c = put-turn _ _ _ _ _ _ _ _ _ (c .before .before .loop .inv) (omega 
 returns : tie.Need-returns Inv-loop μ-loop
 returns c = put-done _ _ _ _ _ _ _ _ (c .before .loop .inv) (omega arith)
 
-pub put2-spec : {M : Type 1} → statement M
-put2-spec =
+pub read2-spec : {M : Type 1} → statement M
+read2-spec =
     tie.close
     (tie.spec
     Inv-loop

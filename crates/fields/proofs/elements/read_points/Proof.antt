@@ -1,12 +1,12 @@
 -- The loop keeps `Putting` for the widths 2, 2 and 4: the three stores of a turn are the numbers of one point (`point-turn`).
 use Rattle.fields.proofs.Laws.Put.{point-turn, Putting, put-start, put-turn, put-done}
 use Prim.Native.Nat.{_+_, _-_, _*_}
 use mathlib.Core.List.{[], _∷_}
 use native.Mathlib.Omega.{arith}
 use borrow.Author.Needs.{needs}
 use lib.ListN.{length-set}
-use Rattle.reading_fill.proofs.pools.put_points.Statement.{statement}
-use Rattle.reading_fill.proofs.pools.put_points.Tie as tie
+use Rattle.fields.proofs.elements.read_points.Statement.{statement}
+use Rattle.fields.proofs.elements.read_points.Tie as tie
 
 abbrev Inv-loop : tie.InvT-loop
 Inv-loop xs at n out₀ w i₀ out i = Putting (2 ∷ 2 ∷ 4 ∷ []) xs at n w out₀ i out
@@ -36,8 +36,8 @@ loop-again c =
 returns : tie.Need-returns Inv-loop μ-loop
 returns c = put-done _ _ _ _ _ _ _ _ (c .before .loop .inv) (omega arith)
 
-pub put-points-spec : {M : Type 1} → statement M
-put-points-spec =
+pub read-points-spec : {M : Type 1} → statement M
+read-points-spec =
     tie.close
     (tie.spec
     Inv-loop
