@@ -9,6 +9,7 @@ ghost use Rattle.fields.specs.Shapes.{dimensions, widthsOf, pointOf};
 ghost use Rattle.layout.specs.Bytes.{numbers, storedAll, repeat};
 use crate::numbers;
 use crate::shapes;
+use crate::shapes::Loop;
 use crate::shapes::Shape;
 
 // Fills n elements of the pool, from w on, with the two-byte numbers that start at `at`.
@@ -74,18 +75,19 @@ pub fn read_elements(xs: &[u8], at: usize, count: usize, s: Shape, out: &mut [u6
     ensures { λ _. ⌜ now (out .exit) ≡ sets (now (out .entry)) w (numbers (repeat count (widthsOf s)) (drop at (now (xs .entry)))) ⌝ }
 {
     let n = shapes::elements_of(count, s.three);
-    if s.size {
-        if s.float {
-            read8(xs, at, n, out, w);
-        } else {
+    match shapes::loop_of(s) {
+        Loop::Two => {
+            read2(xs, at, n, out, w);
+        }
+        Loop::Four => {
             read4(xs, at, n, out, w);
         }
-    } else if s.float {
-        read4(xs, at, n, out, w);
-    } else if s.three {
-        read_points(xs, at, count, out, w);
-    } else {
-        read2(xs, at, n, out, w);
+        Loop::Eight => {
+            read8(xs, at, n, out, w);
+        }
+        Loop::Points => {
+            read_points(xs, at, count, out, w);
+        }
     }
 }
 
@@ -147,17 +149,18 @@ pub fn put_elements(xs: &[u64], at: usize, count: usize, s: Shape, out: &mut [u8
     ensures { λ _. ⌜ now (out .exit) ≡ sets (now (out .entry)) w (storedAll (repeat count (widthsOf s)) (drop at (now (xs .entry)))) ⌝ }
 {
     let n = shapes::elements_of(count, s.three);
-    if s.size {
-        if s.float {
-            put8(xs, at, n, out, w);
-        } else {
+    match shapes::loop_of(s) {
+        Loop::Two => {
+            put2(xs, at, n, out, w);
+        }
+        Loop::Four => {
             put4(xs, at, n, out, w);
         }
-    } else if s.float {
-        put4(xs, at, n, out, w);
-    } else if s.three {
-        put_points(xs, at, count, out, w);
-    } else {
-        put2(xs, at, n, out, w);
+        Loop::Eight => {
+            put8(xs, at, n, out, w);
+        }
+        Loop::Points => {
+            put_points(xs, at, count, out, w);
+        }
     }
 }

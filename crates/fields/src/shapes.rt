@@ -2,7 +2,7 @@
 ghost use mathlib.Core.Bool.{true, false};
 ghost use mathlib.Core.Path.{_≡_};
 ghost use Prim.Native.Nat.{_*_, _≤_, _<_, _^_};
-ghost use Rattle.fields.specs.Shapes.{shapeOf, dimensions, pointOf};
+ghost use Rattle.fields.specs.Shapes.{shapeOf, dimensions, pointOf, loopOf};
 ghost use Rattle.layout.specs.Shared.Row.{referenceOf};
 ghost use Rattle.layout.specs.Shared.Widths.{pointBytes};
 use crate::records;
@@ -82,4 +82,31 @@ pub fn point_size(s: Shape) -> usize
         return three_dimensions(s.size, s.float);
     }
     two_dimensions(s.size, s.float)
+}
+
+// The loop that serves a shape's elements: one for each width, and one for points of two elements of two bytes and a height of four, the one
+// kind of point whose elements are not all of one width.
+pub enum Loop {
+    Two,
+    Four,
+    Eight,
+    Points,
+}
+
+pub fn loop_of(s: Shape) -> Loop
+    ensures { λ r. ⌜ r ≡ loopOf s ⌝ }
+{
+    if s.size {
+        if s.float {
+            return Loop::Eight;
+        }
+        return Loop::Four;
+    }
+    if s.float {
+        return Loop::Four;
+    }
+    if s.three {
+        return Loop::Points;
+    }
+    Loop::Two
 }

@@ -2,12 +2,14 @@
 -- code that chooses a loop by the width.
 use mathlib.Core.Bool.{Bool, true, false, cond}
 use mathlib.Core.List.{[], _∷_}
-use mathlib.Core.Path.{_≡_, refl, sym, ap, _∙_}
+use mathlib.Core.Path.{_≡_, refl, sym, ap, subst, _∙_}
 use Prim.Native.Nat.{ℕ, zero, suc, _*_, _^_, _≤_, _<_}
 use lib.ListN.{length}
 use native.Mathlib.Nat.{zero-mul, mul-comm, mul-one, mul-le-mul-left}
 use native.Mathlib.Omega.{arith}
-use Rattle.fields.specs.Shapes.{dimensions}
+use Rattle.fields.specs.Shapes.{dimensions, loopBy}
+use Rattle.fields.specs.declared.shapes.Loop.{Loop}
+use Rattle.fields.specs.declared.shapes.Loop.the-variants as By
 use Rattle.laws.proofs.Base.Numbers.{length-repeat, total-repeat}
 use Rattle.layout.specs.Bytes.{repeat, total}
 use Rattle.layout.specs.Shared.Widths.{elementWidths, pointBytes, point-is-elements}
@@ -24,18 +26,19 @@ product-fits points k h l = omega (arith, mul-le-mul-left points l)
 pub record OneWidth (p : ℕ) (size float three : Bool) : Type 0 where
   pub widths : elementWidths size float three ≡ p ∷ p ∷ cond three (p ∷ []) []
 
--- the branches of the code, by what they have tested
-pub wide8 : (size float three : Bool) → size ≡ true → float ≡ true → OneWidth 8 size float three
-wide8 size float three a b = record { widths = rw (a, b) refl }
+-- what a loop serves: elements that are all of its width, or points of 2, 2 and 4 bytes
+abbrev pub Served : Loop → Bool → Bool → Bool → Type 0
+Served By.Two size float three = OneWidth 2 size float three
+Served By.Four size float three = OneWidth 4 size float three
+Served By.Eight size float three = OneWidth 8 size float three
+Served By.Points size float three = (size ≡ false) × (float ≡ false) × (three ≡ true)
 
-pub wide4 : (size float three : Bool) → size ≡ true → float ≡ false → OneWidth 4 size float three
-wide4 size float three a b = record { widths = rw (a, b) refl }
-
-pub wide4′ : (size float three : Bool) → size ≡ false → float ≡ true → OneWidth 4 size float three
-wide4′ size float three a b = record { widths = rw (a, b) refl }
-
-pub wide2 : (size float three : Bool) → size ≡ false → float ≡ false → three ≡ false → OneWidth 2 size float three
-wide2 size float three a b t = record { widths = rw (a, b, t) refl }
+pub served : (size float three : Bool) (l : Loop) → loopBy size float three ≡ l → Served l size float three
+served true true three l e = subst (λ k. Served k true true three) e (record { widths = refl })
+served true false three l e = subst (λ k. Served k true false three) e (record { widths = refl })
+served false true three l e = subst (λ k. Served k false true three) e (record { widths = refl })
+served false false true l e = subst (λ k. Served k false false true) e (refl, refl, refl)
+served false false false l e = subst (λ k. Served k false false false) e (record { widths = refl })
 
 pub wide224 : (size float three : Bool) → size ≡ false → float ≡ false → three ≡ true → elementWidths size float three ≡ 2 ∷ 2 ∷ 4 ∷ []
 wide224 size float three a b t = rw (a, b, t) refl
