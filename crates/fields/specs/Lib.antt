@@ -3,3 +3,4 @@ pub mod Steps
 pub mod Flags
 pub mod Shapes
 pub mod Sums
+pub mod Headers

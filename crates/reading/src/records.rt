@@ -12,6 +12,7 @@ ghost use Rattle.layout.specs.Reading.Sheets.{start, sheetWalk};
 ghost use Rattle.layout.specs.Walk.{answer, upTo};
 ghost use Rattle.reading.specs.Found.{AcceptedAt, Hops, recordBy};
 use crate::sheets::check_by_year;
+use fields::headers::header_at;
 use fields::numbers;
 use fields::records::first_count;
 use fields::records::reference_number;
@@ -19,7 +20,6 @@ use layout::Checked;
 use layout::Found;
 use layout::RecordAt;
 use layout::Refusal;
-use layout::header;
 use layout::refusals::ASK;
 use layout::row;
 use layout::sheet;
@@ -35,8 +35,7 @@ fn place_of(s: &[u8], number: u64) -> usize
     let mut left = number;
     let mut at: usize = sheet::START;
     while 0 < left {
-        let total = numbers::u32_at(s, at + header::TOTAL) as usize;
-        at += total;
+        at += header_at(s, at).total as usize;
         left -= 1;
     }
     at
@@ -58,23 +57,19 @@ fn record_by(xs: &[u8], place: usize, count: usize) -> RecordAt
     requires { ⌜ Header.size ≤ length (now xs) ⌝ }
     ensures { λ r. ⌜ r ≡ recordBy place count (headerIn (now (xs .entry))) ⌝ }
 {
-    let b20 = numbers::u8_at(xs, header::BYTE20);
-    let b21 = numbers::u8_at(xs, header::BYTE21);
-    let b22 = numbers::u8_at(xs, header::BYTE22);
-    let word = numbers::u32_at(xs, header::WORD);
-    let subobjects = numbers::u16_at(xs, header::SUBOBJECTS);
+    let h = header_at(xs, 0);
     RecordAt {
         place,
-        total: numbers::u32_at(xs, header::TOTAL) as usize,
-        code: numbers::u32_at(xs, header::CODE),
-        in_group: numbers::u16_at(xs, header::IN_GROUP),
-        group: numbers::u16_at(xs, header::GROUP),
-        reference: reference_number(b20, b21, b22),
-        generalisation: numbers::u8_at(xs, header::GENERALISATION),
-        word,
-        parts: 1 + (subobjects as u32),
-        items: items_of(count, subobjects),
-        points: first_count(numbers::u16_at(xs, header::POINTS), word),
+        total: h.total as usize,
+        code: h.code,
+        in_group: h.in_group,
+        group: h.group,
+        reference: reference_number(h.b20, h.b21, h.b22),
+        generalisation: h.generalisation,
+        word: h.word,
+        parts: 1 + (h.subobjects as u32),
+        items: items_of(count, h.subobjects),
+        points: first_count(h.points, h.word),
     }
 }
 

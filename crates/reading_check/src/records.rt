@@ -4,19 +4,21 @@ ghost use Prim.Native.Nat.{_+_, _*_, _≤_, _<_, _^_};
 ghost use lib.ListN.{length};
 ghost use Rattle.reading_check.specs.Records.{Passed, restWalk, semanticsOf};
 ghost use Rattle.reading_check.specs.Tally.{shown, tally, Within, WithinT};
+ghost use Rattle.fields.specs.Headers.{headerOf};
 ghost use Rattle.fields.specs.Sums.{SummedIn};
 ghost use Rattle.layout.specs.Bytes.{total};
 ghost use Rattle.layout.specs.Fields.{limit};
 ghost use Rattle.layout.specs.Reading.Records.{recordWalk};
 ghost use Rattle.layout.specs.Walk.{times};
 ghost use Rattle.layout.specs.Writing.Tables.{joined, flattenRecord};
-use crate::headers;
-use crate::headers::Header;
+use crate::headers::check_header;
 use crate::items;
 use crate::parts;
 use crate::tally::Counted;
 use crate::tally::Tally;
 use crate::tally::sum;
+use fields::headers::Header;
+use fields::headers::header_at;
 use fields::records::first_count;
 use fields::steps;
 use fields::steps::Step;
@@ -50,7 +52,7 @@ fn semantics(xs: &[u8], p: usize, flag: bool, front: Tally, year: u32) -> Counte
 
 // A record whose header h was let through.
 fn rest(xs: &[u8], p: usize, h: Header, year: u32) -> Counted
-    requires { ⌜ (p + length (now xs) < 2 ^ 32) × Passed (now xs) h ⌝ }
+    requires { ⌜ (p + length (now xs) < 2 ^ 32) × Passed (now xs) (headerOf h) ⌝ }
     ensures means { λ r. ⌜ r ≡ shown (tally flattenRecord) year (restWalk p (now (xs .entry))) ⌝ }
     ensures within { λ r. ⌜ Within (length (now (xs .entry))) 0 r ⌝ }
 {
@@ -97,8 +99,8 @@ fn one_record(xs: &[u8], p: usize, year: u32) -> Counted
             year: 0,
         });
     }
-    let h = headers::read_header(xs);
-    match headers::check_header(h, p, xs.len(), year) {
+    let h = header_at(xs, 0);
+    match check_header(h, p, xs.len(), year) {
         Step::Fine => rest(xs, p, h, year),
         Step::Refused(r) => Counted::Refused(r),
     }

@@ -65,25 +65,25 @@ unfoldable pub rowOf : Header → ℕ → List ℕ
 rowOf h items =
     h .code ∷ h .inGroup ∷ h .group ∷ referenceNumber (h .reference) ∷ h .generalisation ∷ h .word ∷ (1 + h .subobjects) ∷ items ∷ []
 
--- the same of the record that xs start with; and of its items
-abbrev pub partsSizeIn : List ℕ → ℕ
-partsSizeIn xs = metricSize (shapeIn (headerIn xs)) (firstIn (headerIn xs)) (headerIn xs .subobjects) (metricIn (headerIn xs) xs)
+-- the same of the record that xs start with and whose header is h; and of its items
+abbrev pub partsSizeIn : Header → List ℕ → ℕ
+partsSizeIn h xs = metricSize (shapeIn h) (firstIn h) (h .subobjects) (metricIn h xs)
 
-abbrev pub partsTableIn : List ℕ → Table
-partsTableIn xs = metricTable (shapeIn (headerIn xs)) (firstIn (headerIn xs)) (headerIn xs .subobjects) (metricIn (headerIn xs) xs)
+abbrev pub partsTableIn : Header → List ℕ → Table
+partsTableIn h xs = metricTable (shapeIn h) (firstIn h) (h .subobjects) (metricIn h xs)
 
-abbrev pub itemsSizeIn : List ℕ → ℕ
-itemsSizeIn xs = itemsSize (semanticsIn (headerIn xs) xs)
+abbrev pub itemsSizeIn : Header → List ℕ → ℕ
+itemsSizeIn h xs = itemsSize (semanticsIn h xs)
 
-abbrev pub itemsTableIn : List ℕ → Table
-itemsTableIn xs = joined flattenItem (itemsIn (semanticsIn (headerIn xs) xs))
+abbrev pub itemsTableIn : Header → List ℕ → Table
+itemsTableIn h xs = joined flattenItem (itemsIn (semanticsIn h xs))
 
 -- what an accepted record keeps: its metric and its items stay within their own bytes, and the record within xs
 pub record RecordFits (xs : List ℕ) : Type 0 where
   pub low : 32 + headerIn xs .metric ≤ headerIn xs .total
   pub high : headerIn xs .total ≤ length xs
-  pub parts : partsSizeIn xs ≤ headerIn xs .metric
-  pub items : itemsSizeIn xs ≤ length (semanticsIn (headerIn xs) xs)
+  pub parts : partsSizeIn (headerIn xs) xs ≤ headerIn xs .metric
+  pub items : itemsSizeIn (headerIn xs) xs ≤ length (semanticsIn (headerIn xs) xs)
 
 -- the cursor with its place counted from the start of a part of the bytes
 abbrev pub inside : Cursor → Cursor

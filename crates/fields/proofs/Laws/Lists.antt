@@ -27,6 +27,10 @@ number-add (suc m) n (x ∷ s) = simp (suc-add, number-add m n s, pow-succ', mul
 pub number-join : (m n : ℕ) (s : List ℕ) (p : ℕ) → number (m + n) (drop p s) ≡ number m (drop p s) + 256 ^ m * number n (drop (p + m) s)
 number-join m n s p = number-add m n (drop p s) ∙ simp drop-drop
 
+-- a field k bytes after a place, as the code reads it
+pub field-at : (w k p : ℕ) (xs : List ℕ) (v : ℕ) → v ≡ number w (drop (p + k) xs) → v ≡ number w (drop k (drop p xs))
+field-at w k p xs v e = rw drop-drop e
+
 -- one more byte of a sum, and its end
 pub total-step : (s : List ℕ) (i : ℕ) → i < length s → total (drop i s) ≡ getD s i 0 + total (drop (i + 1) s)
 total-step s i h = simp (add-one, drop-cons s i 0 h)

@@ -6,7 +6,7 @@ use Prim.Native.Nat.{ℕ, zero, suc, _+_, _-_, _≤_, _<_}
 use lib.ListN.{length, drop, length-append, length-drop}
 use lib.Seq.{drop-drop, drop-at, drop-append-seam}
 use native.Mathlib.Omega.{arith}
-use Rattle.layout.specs.Bytes.{All, Bytes, flat, number, numberIn}
+use Rattle.layout.specs.Bytes.{All, Bytes, flat, numberIn}
 use Rattle.layout.specs.Fields.{limit}
 use Rattle.layout.specs.Fields.Header as Field
 use Rattle.layout.specs.Layout.Encode.{encodeRecord, encodeHead, encodeWith, sheetSum, encode}
@@ -35,11 +35,10 @@ unfolding Hops
 hop-header zero at s h g = absurd (omega arith)
 hop-header (suc n) at s h g = g .0
 
-pub hop-turn : (left at : ℕ) (s : List ℕ) (total : ℕ) → 0 < left → Hops left at s → total ≡ number 4 (drop (at + 4) s) → Hop left at s total
+pub hop-turn : (left at : ℕ) (s : List ℕ) (total : ℕ) → 0 < left → Hops left at s → total ≡ numberIn Field.total (drop at s) → Hop left at s total
 unfolding Hops
-hop-turn zero at s total h g e = absurd (omega arith)
-hop-turn (suc n) at s total h g e =
-    let is : total ≡ number 4 (drop 4 (drop at s)) = rw drop-drop e in
+hop-turn zero at s total h g is = absurd (omega arith)
+hop-turn (suc n) at s total h g is =
     let down : suc n - 1 ≡ n = omega arith in
     record {
       header = g .0;

@@ -12,15 +12,13 @@ use Rattle.reading_check.specs.declared.tally.Counted.the-variants.{Fine, Refus
 use Rattle.reading_check.specs.declared.tally.Tally.{Tally}
 use Rattle.layout.specs.Answers.Calls.{Placed, andThen, recordOf}
 use Rattle.layout.specs.Answers.Enums.{refusal, recordAt, foundOf}
-use Rattle.layout.specs.Bytes.{Bytes, number, flat}
+use Rattle.layout.specs.Bytes.{Bytes, flat}
 use Rattle.layout.specs.Layout.Encode.{encodeRecord}
 use Rattle.layout.specs.Layout.Fine.{FineRecord}
 use Rattle.layout.specs.Layout.Uses.{recordYears}
 use Rattle.layout.specs.Reading.Hops.{placeIn}
 use Rattle.layout.specs.Reading.Records.{headerIn, recordWalk}
 use Rattle.layout.specs.Reading.Sheets.{start, sheetWalk}
-use Rattle.layout.specs.Shared.Mark.{firstCount}
-use Rattle.layout.specs.Shared.Row.{referenceNumber}
 use Rattle.layout.specs.Sheet.{Record}
 use Rattle.layout.specs.Walk.{Answer, Piece, given, refused, answer, upTo, piece, times}
 use Rattle.layout.specs.Writing.Tables.{joined, flattenRecord}
@@ -36,32 +34,6 @@ use Rattle.laws.proofs.Reading.Records.{mark-on, header-in, record-reads}
 use Rattle.laws.proofs.Writing.Records.{record-numbers}
 use Rattle.reading.specs.Found.{AcceptedAt, Hops, recordBy}
 use Rattle.reading.proofs.Laws.Hop.{Holds, sheet-holds, hops-of}
-
--- what is answered of a record, from what stands at each place of its header
-pub by-header : (xs : List ℕ) (place count total code inGroup group b20 b21 b22 reference generalisation word subobjects items points first : ℕ)
-    → total ≡ number 4 (drop 4 xs) → code ≡ number 4 (drop 12 xs) → inGroup ≡ number 2 (drop 16 xs) → group ≡ number 2 (drop 18 xs)
-    → b20 ≡ number 1 (drop 20 xs) → b21 ≡ number 1 (drop 21 xs) → b22 ≡ number 1 (drop 22 xs)
-    → reference ≡ referenceNumber (record { byte20 = b20; byte21 = b21; byte22 = b22 }) → generalisation ≡ number 1 (drop 23 xs)
-    → word ≡ number 4 (drop 24 xs) → subobjects ≡ number 2 (drop 28 xs) → items ≡ (count - (10 + 2 * subobjects)) / 4
-    → points ≡ number 2 (drop 30 xs) → first ≡ firstCount points word
-    → record {
-      place = place;
-      total = total;
-      code = code;
-      «in_group» = inGroup;
-      group = group;
-      reference = reference;
-      generalisation = generalisation;
-      word =
-          word;
-      parts = 1 + subobjects;
-      items = items;
-      points = first;
-    }
-    ≡ recordBy place count (headerIn xs)
-by-header xs place count total code inGroup group b20 b21 b22 reference generalisation word subobjects items points first et ec ei eg e20 e21 e22 er en ew es em
-    ep ef =
-    rw (et, ec, ei, eg, er, e20, e21, e22, en, em, ef, ew, es, ep) refl
 
 -- one record is a list of one
 pub one-of-one : (y p : ℕ) (xs : List ℕ) → shown (tally (joined flattenRecord)) y (times 1 recordWalk p xs) ≡ shown (tally flattenRecord) y (recordWalk p xs)

@@ -11,9 +11,8 @@ use native.Mathlib.Nat.{add-zero}
 use native.Mathlib.Omega.{arith}
 use Rattle.reading_check.proofs.Laws.Shown.{next, plus, shown-bind, shown-plus}
 use Rattle.reading_check.proofs.Laws.Steps.{step-on, step-stop}
-use Rattle.reading_check.specs.Records.{shortOf, referenceOf, lengthRules, countRules, headerChecks, Passed, restWalk, semanticsOf}
+use Rattle.reading_check.specs.Records.{headerChecks, Passed, restWalk, semanticsOf}
 use Rattle.reading_check.specs.Tally.{add, tally, tallyOf, metricTable, shown}
-use Rattle.reading_check.specs.declared.headers.Header.{Header}
 use Rattle.reading_check.specs.declared.tally.Counted.{Counted}
 use Rattle.reading_check.specs.declared.tally.Counted.the-variants.{Fine, Refused}
 use Rattle.reading_check.specs.declared.tally.Tally.{Tally}
@@ -26,8 +25,7 @@ use Rattle.layout.specs.Bytes.{some, agree}
 use Rattle.layout.specs.Fields.Header as Field
 use Rattle.layout.specs.Reading.Items.{itemWalk}
 use Rattle.layout.specs.Reading.Parts.{metricWalk}
-use Rattle.layout.specs.Reading.Records as Reading
-use Rattle.layout.specs.Reading.Records.{headerIn, lengthChecks, countChecks, headerWalk, bodyWalk, metricIn, semanticsIn, recordWith, recordWalk}
+use Rattle.layout.specs.Reading.Records.{Header, headerIn, lengthChecks, countChecks, headerWalk, bodyWalk, metricIn, semanticsIn, recordWith, recordWalk}
 use Rattle.layout.specs.Refusals.{LENGTH, SHORT}
 use Rattle.layout.specs.Shared.Mark.{isMark, firstCount}
 use Rattle.layout.specs.Shared.Reference.{referenceChecks, semantics}
@@ -59,7 +57,7 @@ module _ (y p : ℕ) (xs : List ℕ) (flag t : Bool) (front : Tally) (e : t ≡ 
 abbrev pub headTally : Tally
 headTally = record { used = 32; numbers = 8; elements = 0; bytes = 0 }
 
-abbrev recordOf : Reading.Header → Pair Part (List Part) → List Item → Record
+abbrev recordOf : Header → Pair Part (List Part) → List Item → Record
 recordOf h parts items =
     record {
       code = h .code;
@@ -81,7 +79,7 @@ same-tally u v n m e f b c p q r s = rw (p, q, r, s) refl
 three : (k : ℕ) (a b c : List ℕ) → k + length (a ++ (b ++ c)) ≡ k + length (a ++ b) + length c
 three k a b c = omega (arith, length-append a (b ++ c), length-append b c, length-append a b)
 
-record-tally : (h : Reading.Header) (v : Pair Part (List Part)) (items : List Item) (m s : ℕ) → h .total ≡ 32 + m + s
+record-tally : (h : Header) (v : Pair Part (List Part)) (items : List Item) (m s : ℕ) → h .total ≡ 32 + m + s
     → tallyOf (h .total) (flattenRecord (recordOf h v items)) ≡ add (add headTally (tallyOf m (metricTable v))) (tallyOf s (joined flattenItem items))
 unfolding flattenRecord flattenHeader
 record-tally h v items m s e =
@@ -93,7 +91,7 @@ record-tally h v items m s e =
     (omega (arith, three 0 (F .elements) (S .elements) (I .elements)))
     (omega (arith, three 0 (F .bytes) (S .bytes) (I .bytes)))
 
-module _ (h : Reading.Header) (place : ℕ) (ms ss : List ℕ) (y : ℕ) (e : h .total ≡ 32 + length ms + length ss) where
+module _ (h : Header) (place : ℕ) (ms ss : List ℕ) (y : ℕ) (e : h .total ≡ 32 + length ms + length ss) where
   abbrev all : Walk (Piece Record)
   all = bodyWalk h place ms ss >>= λ r. ends (piece r (h .total))
 
@@ -163,20 +161,20 @@ module _ (xs : List ℕ) (h : Header) (P : Passed xs h) where
 
   module _ (y p count : ℕ) (c : count ≡ firstCount (h .points) (h .word)) (k : Counted)
       (means : k ≡ shown (λ v. tallyOf (length (take (32 + h .metric - 32) (drop 32 xs))) (metricTable v)) y
-      (metricWalk (referenceOf h) (isMark (h .points)) count (h .subobjects) (p + 32) (take (32 + h .metric - 32) (drop 32 xs)))) where
+      (metricWalk (h .reference) (isMark (h .points)) count (h .subobjects) (p + 32) (take (32 + h .metric - 32) (drop 32 xs)))) where
     here : k ≡ shown (λ v. tallyOf (length (metricIn (headerIn xs) xs)) (metricTable v)) y
         (metricWalk (headerIn xs .reference) (isMark (headerIn xs .points)) (firstCount (headerIn xs .points) (headerIn xs .word)) (headerIn xs .subobjects)
         (p + 32) (metricIn (headerIn xs) xs))
     here =
         let a : k ≡ shown (λ v. tallyOf (length (metricIn (headerIn xs) xs)) (metricTable v)) y
-        (metricWalk (referenceOf h) (isMark (h .points)) (firstCount (h .points) (h .word)) (h .subobjects) (p + 32) (metricIn (headerIn xs) xs)) =
+        (metricWalk (h .reference) (isMark (h .points)) (firstCount (h .points) (h .word)) (h .subobjects) (p + 32) (metricIn (headerIn xs) xs)) =
         subst (λ (l : List ℕ). k ≡ shown (λ v. tallyOf (length l) (metricTable v)) y
-        (metricWalk (referenceOf h) (isMark (h .points)) (firstCount (h .points) (h .word)) (h .subobjects) (p + 32) l))
+        (metricWalk (h .reference) (isMark (h .points)) (firstCount (h .points) (h .word)) (h .subobjects) (p + 32) l))
         metric-cut
         (subst (λ (n : ℕ). k ≡ shown (λ v. tallyOf (length (take (32 + h .metric - 32) (drop 32 xs))) (metricTable v)) y
-        (metricWalk (referenceOf h) (isMark (h .points)) n (h .subobjects) (p + 32) (take (32 + h .metric - 32) (drop 32 xs)))) c means) in
+        (metricWalk (h .reference) (isMark (h .points)) n (h .subobjects) (p + 32) (take (32 + h .metric - 32) (drop 32 xs)))) c means) in
         subst (λ (z : Header). k ≡ shown (λ v. tallyOf (length (metricIn (headerIn xs) xs)) (metricTable v)) y
-        (metricWalk (referenceOf z) (isMark (z .points)) (firstCount (z .points) (z .word)) (z .subobjects) (p + 32) (metricIn (headerIn xs) xs)))
+        (metricWalk (z .reference) (isMark (z .points)) (firstCount (z .points) (z .word)) (z .subobjects) (p + 32) (metricIn (headerIn xs) xs)))
         (P .is) a
 
     pub rest-stop : (q : Refusal) → k ≡ Refused q → Refused q ≡ shown (tally flattenRecord) y (restWalk p xs)
@@ -184,12 +182,12 @@ module _ (xs : List ℕ) (h : Header) (P : Passed xs h) where
     rest-stop q f = body-stop (headerIn xs) (p + 32) (metricIn (headerIn xs) xs) (semanticsIn (headerIn xs) xs) y lengths k here q f
 
     pub rest-on : (m : Tally) → k ≡ Fine m → (front : Tally) → front ≡ add headTally m → (r : Counted)
-        → r ≡ semanticsOf (semantics (referenceOf h)) front y (p + (32 + h .metric)) (take (h .total - (32 + h .metric)) (drop (32 + h .metric) xs))
+        → r ≡ semanticsOf (semantics (h .reference)) front y (p + (32 + h .metric)) (take (h .total - (32 + h .metric)) (drop (32 + h .metric) xs))
         → r ≡ shown (tally flattenRecord) y (restWalk p xs)
     unfolding restWalk
     rest-on m f front a r g =
         let q : p + (32 + h .metric) ≡ p + 32 + headerIn xs .metric = omega (arith, metric-is) in
-        let b : semantics (referenceOf h) ≡ semantics (headerIn xs .reference) = ap (λ (z : Header). semantics (referenceOf z)) (P .is) in
+        let b : semantics (h .reference) ≡ semantics (headerIn xs .reference) = ap (λ (z : Header). semantics (z .reference)) (P .is) in
         g ∙ rw (q, semantics-cut, b, a) (body-on (headerIn xs) (p + 32) (metricIn (headerIn xs) xs) (semanticsIn (headerIn xs) xs) y lengths k here m f)
 
 -- the header
@@ -199,20 +197,22 @@ module _ (y p : ℕ) (xs : List ℕ) where
   unfolding recordWalk
   record-short h = simp (lt-leb 32 (length xs) h, add-zero)
 
-  module _ (l : 32 ≤ length xs) (h : Header) (e : h ≡ shortOf (headerIn xs)) where
+  module _ (l : 32 ≤ length xs) where
+    abbrev h : Header
+    h = headerIn xs
+
     halves : recordWalk p xs ≡ (checks p (headerChecks (length xs) h) >> restWalk p xs)
-    unfolding recordWalk recordWith headerWalk lengthChecks countChecks restWalk
+    unfolding recordWalk recordWith headerWalk restWalk
     halves =
-        let k : Header = shortOf (headerIn xs) in
-        let A = lengthRules (length xs) k in
-        let B = referenceChecks 20 21 22 (referenceOf k) in
-        let C = countRules k in
-        rw (e, le-leb 32 (length xs) l)
+        let A = lengthChecks (length xs) h in
+        let B = referenceChecks 20 21 22 (h .reference) in
+        let C = countChecks h in
+        rw (le-leb 32 (length xs) l)
         (bind-assoc (checks p A) (λ _. checks p B >> checks p C) (λ _. restWalk p xs)
         ∙ ap (λ w. checks p A >> w) (bind-assoc (checks p B) (λ _. checks p C) (λ _. restWalk p xs))
         ∙ sym (checks-append p A (B ++ C) (restWalk p xs) ∙ ap (λ w. checks p A >> w) (checks-append p B C (restWalk p xs))))
 
-    module _ (r : Step) (n : Next Stp.Fine y p (headerChecks (length xs) h) r) where
+    module _ (r : Step) (n : Next Stp.Fine y p (headerChecks (length xs) (headerIn xs)) r) where
       pub record-on : r ≡ Stp.Fine → (m : Counted) → m ≡ shown (tally flattenRecord) y (restWalk p xs) → m ≡ shown (tally flattenRecord) y (recordWalk p xs)
       record-on f m g = g ∙ sym
           (ap (shown (tally flattenRecord) y) halves ∙ step-on y (tally flattenRecord) p (headerChecks (length xs) h) (restWalk p xs) r n f)
@@ -221,10 +221,11 @@ module _ (y p : ℕ) (xs : List ℕ) where
       record-stop q f = step-stop y (tally flattenRecord) p (headerChecks (length xs) h) (restWalk p xs) r n q f
           ∙ sym (ap (shown (tally flattenRecord) y) halves)
 
-      pub record-passed : r ≡ Stp.Fine → Passed xs h
+      pub record-passed : r ≡ Stp.Fine → Passed xs (headerIn xs)
+      unfolding lengthChecks
       record-passed f =
           let a = step-holds y p (headerChecks (length xs) h) r n f in
           let low : 32 ≤ h .total = leb-true 32 (h .total) (a .1 .0) in
           let high : h .total ≤ length xs = leb-true (h .total) (length xs) (a .1 .1 .0) in
           let metric : h .metric ≤ h .total - 32 = leb-true (h .metric) (h .total - 32) (a .1 .1 .1 .0) in
-          record { is = e; low = low; high = high; metric = omega arith }
+          record { is = refl; low = low; high = high; metric = omega arith }

@@ -1,23 +1,21 @@
 -- A record in pass 2, over plain variables: what the code asks and what it has done.
 use mathlib.Core.List.{List, [], _∷_, _++_, append-assoc, append-nil}
-use mathlib.Core.Path.{_≡_, refl, sym, ap, ap₂, subst, _∙_}
+use mathlib.Core.Path.{_≡_, refl, sym, ap, ap₂, _∙_}
 use Prim.Native.Nat.{ℕ, _+_, _-_, _/_, _≤_}
 use lib.ListN.{length, take, drop, length-append, length-drop}
 use lib.Seq.{sets, drop-drop, length-sets, length-take-le}
 use native.Mathlib.Omega.{arith}
 use Rattle.reading_fill.specs.Cursors.{moved, Room, Wrote}
 use Rattle.reading_fill.specs.Parts.{partIn, partSize, subobjectIn, subobjectSize}
-use Rattle.fields.specs.Shapes.{shapeOf}
 use Rattle.reading_fill.specs.Pieces.{timesIn, timesSize, fillIn, fillSize}
 use Rattle.reading_fill.specs.Records.{shapeIn, firstIn, laterIn, recordOf, recordIn, recordSize, metricSize, metricTable, rowOf, RecordFits, inside}
 use Rattle.reading_fill.specs.declared.cursors.Cursor.{Cursor}
+use Rattle.fields.specs.Headers.{headerOf}
+use Rattle.fields.specs.declared.headers.Header as Code
 use Rattle.fields.specs.declared.shapes.Shape.{Shape}
 use Rattle.laws.proofs.Writing.Items.{items-flat}
-use Rattle.layout.specs.Bytes.{number}
 use Rattle.layout.specs.Reading.Items.{itemIn, itemSize}
 use Rattle.layout.specs.Reading.Records.{Header, headerIn, metricIn, semanticsIn}
-use Rattle.layout.specs.Shared.Mark.{firstCount}
-use Rattle.layout.specs.Shared.Row.{referenceNumber}
 use Rattle.layout.specs.Sheet.{Item, Table}
 use Rattle.layout.specs.Writing.Tables.{table, join, joined, flattenHeader, flattenPart, flattenItem, flattenRecord}
 use Rattle.reading_fill.proofs.Laws.Loops.{times-length}
@@ -96,89 +94,12 @@ room-kept c k a xl d b t₀ e₀ b₀ t₁ e₁ b₁ w r =
     let lb : length b₁ ≡ length b₀ = ap length (w .bytes) ∙ length-sets b₀ (d .bytes) (b .bytes) in
     rw (lt, le, lb) r
 
--- a field of the record at p, as the code reads it
-pub field-at : (w k p : ℕ) (xs : List ℕ) (v : ℕ) → v ≡ number w (drop (p + k) xs) → v ≡ number w (drop k (drop p xs))
-field-at w k p xs v e = rw drop-drop e
+-- the bytes of the metric and those after it, of a record at a place, as the code cuts them
+pub metric-is : (xs : List ℕ) (p : ℕ) (h : Header) → take (h .metric) (drop (p + 32) xs) ≡ metricIn h (drop p xs)
+metric-is xs p h = rw (drop-drop 32 p xs) refl
 
--- the metric of the record at c's place: ys are its bytes
-module _ (xs : List ℕ) (c : Cursor) (metric b20 b21 b22 word n points count : ℕ) (s : Shape) (ys : List ℕ)
-    (em : metric ≡ number 4 (drop (c .place + 8) xs)) (e20 : b20 ≡ number 1 (drop (c .place + 20) xs)) (e21 : b21 ≡ number 1 (drop (c .place + 21) xs))
-    (e22 : b22 ≡ number 1 (drop (c .place + 22) xs)) (ew : word ≡ number 4 (drop (c .place + 24) xs)) (en : n ≡ number 2 (drop (c .place + 28) xs))
-    (ep : points ≡ number 2 (drop (c .place + 30) xs)) (ec : count ≡ firstCount points word)
-    (es : s ≡ shapeOf (record { byte20 = b20; byte21 = b21; byte22 = b22 })) (ey : ys ≡ take metric (drop (c .place + 32) xs)) where
-  abbrev h : Header
-  h = headerIn (drop (c .place) xs)
-
-  metric-field : metric ≡ h .metric
-  metric-field = field-at 4 8 (c .place) xs metric em
-
-  shape-is : s ≡ shapeIn h
-  shape-is = es ∙ rw (field-at 1 21 (c .place) xs b21 e21, field-at 1 22 (c .place) xs b22 e22) refl
-
-  count-is : count ≡ firstIn h
-  count-is = ec ∙ rw (field-at 2 30 (c .place) xs points ep, field-at 4 24 (c .place) xs word ew) refl
-
-  later-is : n ≡ h .subobjects
-  later-is = field-at 2 28 (c .place) xs n en
-
-  bytes-is : ys ≡ metricIn h (drop (c .place) xs)
-  bytes-is = ey ∙ ap₂ (λ k l. take k l) metric-field (sym (drop-drop 32 (c .place) xs))
-
-  same-size : metricSize s count n ys ≡ metricSize (shapeIn h) (firstIn h) (h .subobjects) (metricIn h (drop (c .place) xs))
-  same-size = ap₂ (λ a b. metricSize a b n ys) shape-is count-is ∙ ap₂ (λ a b. metricSize (shapeIn h) (firstIn h) a b) later-is bytes-is
-
-  same-table : metricTable s count n ys ≡ metricTable (shapeIn h) (firstIn h) (h .subobjects) (metricIn h (drop (c .place) xs))
-  same-table = ap₂ (λ a b. metricTable a b n ys) shape-is count-is ∙ ap₂ (λ a b. metricTable (shapeIn h) (firstIn h) a b) later-is bytes-is
-
-  pub inside-ask : (tl el bl : ℕ) → Room (inside c) (metricSize (shapeIn h) (firstIn h) (h .subobjects) (metricIn h (drop (c .place) xs)))
-      (metricTable (shapeIn h) (firstIn h) (h .subobjects) (metricIn h (drop (c .place) xs))) (h .metric) tl el bl
-      → c .place + (32 + h .metric) ≤ length xs → Room (inside c) (metricSize s count n ys) (metricTable s count n ys) (length ys) tl el bl
-  inside-ask tl el bl r fits =
-      let l : length ys ≡ h .metric = ap length ey
-      ∙ length-take-le metric (drop (c .place + 32) xs) (omega (arith, length-drop (c .place + 32) xs, metric-field)) ∙ metric-field in
-      rw (same-size, same-table, l) r
-
-  pub inside-moved : (r : Cursor) → r ≡ moved (inside c) (metricSize s count n ys) (metricTable s count n ys)
-      → r ≡ moved (inside c) (metricSize (shapeIn h) (firstIn h) (h .subobjects) (metricIn h (drop (c .place) xs)))
-      (metricTable (shapeIn h) (firstIn h) (h .subobjects) (metricIn h (drop (c .place) xs)))
-  inside-moved r e = e ∙ ap₂ (λ a b. moved (inside c) a b) same-size same-table
-
-  pub inside-wrote : (t₀ e₀ b₀ t₁ e₁ b₁ : List ℕ) → Wrote (inside c) (metricTable s count n ys) t₀ e₀ b₀ t₁ e₁ b₁
-      → Wrote (inside c) (metricTable (shapeIn h) (firstIn h) (h .subobjects) (metricIn h (drop (c .place) xs))) t₀ e₀ b₀ t₁ e₁ b₁
-  inside-wrote t₀ e₀ b₀ t₁ e₁ b₁ w = subst (λ a. Wrote (inside c) a t₀ e₀ b₀ t₁ e₁ b₁) same-table w
-
--- what comes after the metric
-module _ (xs : List ℕ) (c : Cursor) (total metric : ℕ) (et : total ≡ number 4 (drop (c .place + 4) xs)) (em : metric ≡ number 4 (drop (c .place + 8) xs)) where
-  pub after-fields : (total ≡ headerIn (drop (c .place) xs) .total) × (metric ≡ headerIn (drop (c .place) xs) .metric)
-  after-fields = (field-at 4 4 (c .place) xs total et, field-at 4 8 (c .place) xs metric em)
-
-  module _ (ys : List ℕ) (ey : ys ≡ take (total - 32 - metric) (drop (c .place + 32 + metric) xs)) where
-    pub after-is : ys ≡ semanticsIn (headerIn (drop (c .place) xs)) (drop (c .place) xs)
-    after-is =
-        ey ∙ rw (← drop-drop metric (c .place + 32) xs, ← drop-drop 32 (c .place) xs)
-        (ap₂ (λ a b. take (a - 32 - b) (drop b (drop 32 (drop (c .place) xs)))) (after-fields .0) (after-fields .1))
-
--- the eight numbers
-pub row-is : (xs : List ℕ) (at code inGroup group reference b20 b21 b22 generalisation word subobjects n : ℕ) → code ≡ number 4 (drop (at + 12) xs)
-    → inGroup ≡ number 2 (drop (at + 16) xs) → group ≡ number 2 (drop (at + 18) xs)
-    → reference ≡ referenceNumber (record { byte20 = b20; byte21 = b21; byte22 = b22 })
-    → b20 ≡ number 1 (drop (at + 20) xs) → b21 ≡ number 1 (drop (at + 21) xs) → b22 ≡ number 1 (drop (at + 22) xs)
-    → generalisation ≡ number 1 (drop (at + 23) xs) → word ≡ number 4 (drop (at + 24) xs) → subobjects ≡ number 2 (drop (at + 28) xs)
-    → code ∷ inGroup ∷ group ∷ reference ∷ generalisation ∷ word ∷ (1 + subobjects) ∷ n ∷ [] ≡ rowOf (headerIn (drop at xs)) n
-unfolding rowOf
-row-is xs at code inGroup group reference b20 b21 b22 generalisation word subobjects n ec ei eg er e20 e21 e22 en ew es =
-    rw (
-      field-at 4 12 at xs code ec,
-      field-at 2 16 at xs inGroup ei,
-      field-at 2 18 at xs group eg,
-      er,
-      field-at 1 20 at xs b20 e20,
-      field-at 1 21 at xs b21 e21,
-      field-at 1 22 at xs b22 e22,
-      field-at 1 23 at xs generalisation en,
-      field-at 4 24 at xs word ew,
-      field-at 2 28 at xs subobjects es,
-    ) refl
+pub after-is : (xs : List ℕ) (p : ℕ) (h : Header) → take (h .total - 32 - h .metric) (drop (p + 32 + h .metric) xs) ≡ semanticsIn h (drop p xs)
+after-is xs p h = rw (drop-drop 32 p xs, drop-drop (h .metric) (p + 32) xs) refl
 
 -- the record at c's place
 module _ (xs : List ℕ) (c : Cursor) (fits : RecordFits (drop (c .place) xs)) where
@@ -274,12 +195,13 @@ module _ (xs : List ℕ) (c : Cursor) (fits : RecordFits (drop (c .place) xs)) w
     pub counted : (d .numbers ≤ e .numbers) × ((e .numbers - d .numbers) / 4 ≡ length (fillIn itemIn itemSize (semanticsIn mine (drop (c .place) xs))))
     counted = let n = ap (λ (z : Cursor). z .numbers) ee in let f = items-four its in (omega (arith, n), omega (arith, n, f))
 
-    pub record-moved : (total : ℕ) → total ≡ number 4 (drop (c .place + 4) xs)
-        → record { place = c .place + total; numbers = e .numbers; elements = e .elements; bytes = e .bytes } ≡ moved c (recordSize (drop (c .place) xs))
+    pub record-moved : (h : Code.Header) → headerOf h ≡ headerIn (drop (c .place) xs)
+        → record { place = c .place + h .total; numbers = e .numbers; elements = e .elements; bytes = e .bytes } ≡ moved c (recordSize (drop (c .place) xs))
         (flattenRecord (recordIn (drop (c .place) xs)))
-    record-moved total et =
+    unfolding headerOf
+    record-moved h eh =
         let T = table (rowOf mine (length its) ++ (mt .numbers ++ it .numbers)) (mt .elements) (mt .bytes ++ it .bytes) in
-        let p : c .place + total ≡ c .place + mine .total = ap (λ k. c .place + k) (field-at 4 4 (c .place) xs total et) in
+        let p : c .place + h .total ≡ c .place + mine .total = ap (λ (k : Header). c .place + k .total) eh in
         let n : e .numbers ≡ c .numbers + length (T .numbers) =
         omega (
           arith,
@@ -331,9 +253,9 @@ module _ (xs : List ℕ) (c : Cursor) (fits : RecordFits (drop (c .place) xs)) w
         rw (lt, lb) (record-items xl (length t₀) (length e₀) (length b₀) r d ed)
 
     pub header-room : (t₁ e₁ b₁ : List ℕ) → Wrote (inside past8) mt t₀ e₀ b₀ t₁ e₁ b₁ → (d : Cursor) (t₂ b₂ : List ℕ) → Wrote d it t₁ [] b₁ t₂ [] b₂
-        → (c .place + 32 ≤ xl) × (c .numbers + 8 ≤ length t₂)
+        → c .numbers + 8 ≤ length t₂
     header-room t₁ e₁ b₁ w d t₂ b₂ v =
         let lt : length t₁ ≡ length t₀ = ap length (w .numbers) ∙ length-sets t₀ (c .numbers + 8) (mt .numbers) in
         let l2 : length t₂ ≡ length t₁ = ap length (v .numbers) ∙ length-sets t₁ (d .numbers) (it .numbers) in
         let h = record-header xl (length t₀) (length e₀) (length b₀) r in
-        (h .0, omega (arith, h, lt, l2))
+        omega (arith, h, lt, l2)

@@ -1,10 +1,11 @@
--- The loop keeps `Hops`: the headers still to pass lie within the sheet, and hopping on from here leads to the same place; one hop a turn.
 use native.Mathlib.Omega.{arith}
-use mathlib.Core.Path.{_≡_, refl, sym, _∙_}
+use mathlib.Core.Path.{_≡_, refl, ap, sym, _∙_}
 use denote.Ref.{now}
+use Rattle.fields.specs.Headers.{headerOf}
 use Rattle.layout.specs.Reading.Hops.{placeIn}
+use Rattle.layout.specs.Reading.Records.{Header}
 use Rattle.reading.specs.Found.{Hops}
-use Rattle.reading.proofs.Laws.Hop.{hop-header, hop-turn, hop-done}
+use Rattle.reading.proofs.Laws.Hop.{Hop, hop-header, hop-turn, hop-done}
 use Rattle.reading.proofs.records.place_of.Statement.{statement}
 use Rattle.reading.proofs.records.place_of.Tie as tie
 
@@ -14,47 +15,37 @@ Inv-loop s number left₀ at₀ left at = Hops left at s × (placeIn left at s �
 abbrev μ-loop : tie.MeasureT-loop
 μ-loop s number left₀ at₀ left at = left
 
-abbrev to-start : tie.At-loop Inv-loop μ-loop → tie.Start Inv-loop μ-loop
-to-start p = p .before .before
-
 loop-holds : tie.Need-loop-holds Inv-loop μ-loop
 loop-holds c = (c .before .pre, refl)
 
-add-u32-at : tie.Need-add-u32-at Inv-loop μ-loop
-add-u32-at c =
-    let at-loop = c .before in
-    let start = to-start at-loop in
-    omega (arith, hop-header (at-loop .loop .left) (at-loop .loop .at) (now (start .args .s)) (omega arith) (at-loop .loop .inv .0))
+header-at-requires : tie.Need-header-at-requires Inv-loop μ-loop
+header-at-requires c κs =
+    let start = c .before .before .before in
+    let loop = c .before .loop in
+    hop-header (loop .left) (loop .at) (now (start .args .s)) (omega arith) (loop .inv .0)
 
-u32-at-requires : tie.Need-u32-at-requires Inv-loop μ-loop
-u32-at-requires c κs =
-    let at-loop = c .before in
-    let start = to-start at-loop in
-    omega (arith, hop-header (at-loop .loop .left) (at-loop .loop .at) (now (start .args .s)) (omega arith) (at-loop .loop .inv .0))
+abbrev turn : (m : tie.After-header-at Inv-loop μ-loop)
+    → Hop (m .before .before .loop .left) (m .before .before .loop .at) (now (m .before .before .before .before .args .s)) (m .header-at .result .total)
+unfolding headerOf
+turn m =
+    let start = m .before .before .before .before in
+    let loop = m .before .before .loop in
+    hop-turn (loop .left) (loop .at) (now (start .args .s)) _ (omega arith) (loop .inv .0) (ap (λ (h : Header). h .total) (m .header-at .ensures))
 
 add-at : tie.Need-add-at Inv-loop μ-loop
-add-at c =
-    let at-loop = c .before .before in
-    let start = to-start at-loop in
-    omega (
-      arith,
-      hop-turn (at-loop .loop .left) (at-loop .loop .at) (now (start .args .s)) (c .u32-at .result) (omega arith) (at-loop .loop .inv .0)
-          (c .u32-at .ensures) .within,
-    )
+add-at c = omega (arith, turn (c .before) .within)
 
 loop-again : tie.Need-loop-again Inv-loop μ-loop
 loop-again c =
-    let at-loop = c .before .before in
-    let start = to-start at-loop in
-    let h = hop-turn (at-loop .loop .left) (at-loop .loop .at) (now (start .args .s)) (c .u32-at .result) (omega arith) (at-loop .loop .inv .0)
-    (c .u32-at .ensures) in
-    (h .hops, h .place ∙ at-loop .loop .inv .1)
+    let loop = c .before .before .before .loop in
+    let h = turn (c .before) in
+    (h .hops, h .place ∙ loop .inv .1)
 
 returns : tie.Need-returns Inv-loop μ-loop
 returns c =
-    let at-loop = c .before in
-    let start = to-start at-loop in
-    sym (hop-done (at-loop .loop .left) (at-loop .loop .at) (now (start .args .s)) (omega arith)) ∙ at-loop .loop .inv .1
+    let start = c .before .before .before in
+    let loop = c .before .loop in
+    sym (hop-done (loop .left) (loop .at) (now (start .args .s)) (omega arith)) ∙ loop .inv .1
 
 pub place-of-spec : {M : Type 1} → statement M
 place-of-spec =
@@ -63,8 +54,7 @@ place-of-spec =
     Inv-loop
     μ-loop
     loop-holds
-    add-u32-at
-    u32-at-requires
+    header-at-requires
     (λ c. omega arith)
     add-at
     (λ c. omega arith)

@@ -1,6 +1,8 @@
 -- Each link hands on the step so far (`_▸_`): lengths, reference bytes and counts join to the list `headerChecks`.
 use native.Mathlib.Omega.{arith}
 use Rattle.fields.proofs.Laws.Chain.{_▸_}
+use Rattle.fields.specs.Headers.{headerOf}
+use Rattle.layout.specs.Reading.Records.{lengthChecks, countChecks}
 use borrow.Author.Needs.{needs}
 use Rattle.reading_check.proofs.headers.check_header.Statement.{statement}
 use Rattle.reading_check.proofs.headers.check_header.Tie as tie
@@ -10,6 +12,7 @@ demand-requires-5 c κs =
     omega (arith, c .before .before .before .before .before .before .before .before .before .before .before .before .before .pre)
 
 returns : tie.Need-returns
+unfolding headerOf lengthChecks countChecks
 returns c =
     let after-feature = c .before .before in
     let after-reference-checks = after-feature .before .before in

@@ -3,6 +3,8 @@ use native.Mathlib.Omega.{arith}
 use native.Mathlib.Numerals.{unary-clauses}
 use lib.ListN.{length-set}
 use mathlib.Core.Path.{refl}
+use Rattle.fields.specs.Headers.{headerOf}
+use Rattle.reading_fill.specs.Records.{rowOf}
 use borrow.Author.Needs.{needs}
 use Rattle.reading_fill.proofs.rows.put_record.Statement.{statement}
 use Rattle.reading_fill.proofs.rows.put_record.Tie as tie
@@ -32,7 +34,8 @@ same-length : tie.Need-same-length
 same-length c = simp length-set
 
 returns : tie.Need-returns
-returns c = simp unary-clauses refl
+unfolding headerOf rowOf
+returns c = let reference = c .before .before .before .reference-number in simp (unary-clauses, reference .ensures) refl
 
 pub put-record-spec : {M : Type 1} → statement M
 put-record-spec =
@@ -42,19 +45,28 @@ put-record-spec =
     (λ c. search needs)
     (λ c. search needs)
     (λ c. search needs)
+    (λ c. search needs)
+    (λ c. search needs)
     slice-write-out-2
     (λ c. search needs)
     (λ c. search needs)
+    (λ c. search needs)
     slice-write-out-3
+    (λ c κs. search needs)
+    (λ c. search needs)
     (λ c. search needs)
     (λ c. search needs)
     slice-write-out-4
     (λ c. search needs)
     (λ c. search needs)
+    (λ c. search needs)
     slice-write-out-5
+    (λ c. omega (arith, c .struct-known5 .given .1 .1 .1 .1 .1 .1 .1 .1 .1 .1 .0))
     (λ c. search needs)
     (λ c. search needs)
     slice-write-out-6
+    (λ c. omega (arith, c .struct-known6 .given .1 .1 .1 .1 .1 .1 .1 .1 .1 .1 .1 .0))
+    (λ c. omega (arith, c .struct-known6 .given .1 .1 .1 .1 .1 .1 .1 .1 .1 .1 .1 .0))
     (λ c. search needs)
     (λ c. search needs)
     slice-write-out-7

@@ -62,7 +62,8 @@ returns c =
     let after-emit-sum = c .before .before in
     let after-emit2 = after-emit-sum .before .before .before .before .before in
     let start = to-start-late (after-emit-sum .before) in
-    emitted (head start) (rows start) (start .args .t) (length (out start)) (start .pre) (out start) _ _ _ refl (after-emit2 .before .before .before .before .emit .ensures) (after-emit2 .emit2 .ensures)
+    emitted (head start) (rows start) (start .args .t) (length (out start)) (start .pre) (out start) _ _ _ refl
+    (after-emit2 .before .before .before .before .emit .ensures) (after-emit2 .emit2 .ensures)
     (after-emit-sum .emit-sum .ensures)
 
 pub emit-sheet-spec : {M : Type 1} → statement M
