@@ -7,3 +7,4 @@ pub mod Widths
 pub mod Low
 pub mod Store
 pub mod Points
+pub mod Kinds

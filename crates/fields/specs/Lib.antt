@@ -4,3 +4,4 @@ pub mod Flags
 pub mod Shapes
 pub mod Sums
 pub mod Headers
+pub mod Kinds

@@ -1,7 +1,7 @@
 // Leaf code of both sides: little-endian numbers at a place and parts of slices (numbers), bytes copied (copies), elements of a width
 // (elements), a record's header taken apart (headers), its first count, and its reference number both ways (records), what the reference
-// bytes say of a part (shapes), sums (sums), texts and zeros (texts), and checks one after another (steps) with the lists of checks that
-// reader and writer share (flags).
+// bytes say of a part (shapes), what an item's type says of its value (kinds), sums (sums), texts and zeros (texts), and checks one after
+// another (steps) with the lists of checks that reader and writer share (flags).
 //
 // Relied on: the definitions of `layout`, and the laws of `laws`. Promised: each contract is an equation with a definition; what writes
 // says that the bytes of a definition stand at the place, and that nothing else is changed. What has a `requires` here is called by the
@@ -10,6 +10,7 @@ pub mod copies;
 pub mod elements;
 pub mod flags;
 pub mod headers;
+pub mod kinds;
 pub mod numbers;
 pub mod records;
 pub mod shapes;

@@ -89,7 +89,7 @@ fn shape_of(t: u8, scale: u8) -> Shape
     }
 }
 
-// The checks up to where the value starts.
+// The checks on type and scale, and that the bytes before the value fit.
 fn shape_checks(k: Shape, p: usize, n: usize, year: u32) -> Step
     requires { ⌜ p < 2 ^ 32 ⌝ }
     ensures { λ r. ⌜ Next Fine year p (shapeChecks k n) r ⌝ }
@@ -100,7 +100,7 @@ fn shape_checks(k: Shape, p: usize, n: usize, year: u32) -> Step
     demand(a, k.at <= n, LENGTH, p, 0)
 }
 
-// How long the value is.
+// The length of the value: stored before it for type 128, else what the type and the scale byte say.
 fn value_size(xs: &[u8], k: Shape) -> usize
     requires { ⌜ Shaped (now xs) k × (k .at ≤ length (now xs)) ⌝ }
     ensures { λ r. ⌜ (r ≡ valueSize (now (xs .entry))) × (r < 2 ^ 32) ⌝ }
@@ -111,7 +111,7 @@ fn value_size(xs: &[u8], k: Shape) -> usize
     k.size
 }
 
-// The value: its length, that it fits, and its closing zeros.
+// Checks the value: its length, that it fits, and its closing zeros.
 fn value(xs: &[u8], p: usize, k: Shape) -> Counted
     requires { ⌜ (p + length (now xs) < 2 ^ 32) × Shaped (now xs) k × (k .at ≤ length (now xs)) ⌝ }
     ensures means { λ r. ⌜ ((y : ℕ) → r ≡ shown (tally flattenItem) y (valueWalk p (now (xs .entry)))) ⌝ }
@@ -150,7 +150,7 @@ fn value(xs: &[u8], p: usize, k: Shape) -> Counted
     })
 }
 
-// One item.
+// Checks the item at the start of xs.
 pub fn item(xs: &[u8], p: usize, year: u32) -> Counted
     requires { ⌜ p + length (now xs) < 2 ^ 32 ⌝ }
     ensures means { λ r. ⌜ r ≡ shown (tally flattenItem) year (itemWalk p (now (xs .entry))) ⌝ }
@@ -173,7 +173,7 @@ pub fn item(xs: &[u8], p: usize, year: u32) -> Counted
     }
 }
 
-// The items up to the end of their bytes.
+// Checks items until their bytes end.
 pub fn items(xs: &[u8], p: usize, year: u32) -> Counted
     requires { ⌜ p + length (now xs) < 2 ^ 32 ⌝ }
     ensures means { λ r. ⌜ r ≡ shown (λ l. tallyOf (length (now (xs .entry))) (joined flattenItem l)) year (fill itemWalk p (now (xs .entry))) ⌝ }

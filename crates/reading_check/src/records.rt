@@ -31,7 +31,7 @@ use layout::refusals::SHORT;
 use layout::row;
 use layout::sheet;
 
-// What fills a record after its metric, where front is counted before it.
+// Checks the semantics of a record, which fill it after its metric; front is what was counted before them.
 fn semantics(xs: &[u8], p: usize, flag: bool, front: Tally, year: u32) -> Counted
     requires { ⌜ (p + length (now xs) < 2 ^ 32) × (front .used + length (now xs) < 2 ^ 32) × WithinT (front .used) 0 front ⌝ }
     ensures means { λ r. ⌜ r ≡ semanticsOf flag front year p (now (xs .entry)) ⌝ }
@@ -50,7 +50,7 @@ fn semantics(xs: &[u8], p: usize, flag: bool, front: Tally, year: u32) -> Counte
     })
 }
 
-// A record whose header h was let through.
+// Checks metric and semantics of a record whose header h was let through.
 fn rest(xs: &[u8], p: usize, h: Header, year: u32) -> Counted
     requires { ⌜ (p + length (now xs) < 2 ^ 32) × Passed (now xs) (headerOf h) ⌝ }
     ensures means { λ r. ⌜ r ≡ shown (tally flattenRecord) year (restWalk p (now (xs .entry))) ⌝ }
@@ -86,7 +86,7 @@ fn rest(xs: &[u8], p: usize, h: Header, year: u32) -> Counted
     }
 }
 
-// One record.
+// Checks the record at the start of xs.
 fn one_record(xs: &[u8], p: usize, year: u32) -> Counted
     requires { ⌜ p + length (now xs) < 2 ^ 32 ⌝ }
     ensures means { λ r. ⌜ r ≡ shown (tally flattenRecord) year (recordWalk p (now (xs .entry))) ⌝ }
@@ -106,7 +106,7 @@ fn one_record(xs: &[u8], p: usize, year: u32) -> Counted
     }
 }
 
-// So many records, one after another.
+// Checks n records, one after another.
 pub fn records(xs: &[u8], p: usize, n: u32, year: u32) -> Counted
     requires { ⌜ p + length (now xs) < 2 ^ 32 ⌝ }
     ensures means { λ r. ⌜ r ≡ shown (tally (joined flattenRecord)) year (times n recordWalk p (now (xs .entry))) ⌝ }
@@ -139,7 +139,7 @@ pub struct Walked {
     pub sum: u32,
 }
 
-// What was counted, with the sum of all bytes.
+// What was counted, with the sum carried on to the last byte.
 fn with_sum(xs: &[u8], summed: Summed, counted: Counted) -> Walked
     requires { ⌜ SummedIn (now xs) summed × (length (now xs) ≤ limit) ⌝ }
     ensures { λ r. ⌜ (r .counted ≡ counted) × (r .sum ≡ total (now (xs .entry))) × (r .sum ≤ 255 * length (now (xs .entry))) ⌝ }
@@ -153,7 +153,7 @@ fn with_sum(xs: &[u8], summed: Summed, counted: Counted) -> Walked
 // How many records are checked behind the sum before it goes on.
 const BATCH: u32 = 64;
 
-// A batch of records, or those that are left.
+// How many records are checked next: a batch, or those that are left.
 fn batch(left: u32) -> u32
     requires { ⌜ 0 < left ⌝ }
     ensures { λ r. ⌜ (r ≤ left) × (0 < r) ⌝ }

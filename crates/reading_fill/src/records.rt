@@ -7,8 +7,8 @@ ghost use Rattle.fields.specs.Headers.{headerOf};
 ghost use Rattle.layout.specs.Fields.Header as Field;
 ghost use Rattle.reading_fill.specs.Cursors.{ahead, moved, Room, Wrote};
 ghost use Rattle.reading_fill.specs.Pieces.{Each};
-ghost use Rattle.reading_fill.specs.Records.{recordIn, recordSize, recordsIn, recordsSize, metricSize, metricTable, partsSizeIn, partsTableIn};
-ghost use Rattle.reading_fill.specs.Records.{itemsSizeIn, itemsTableIn, RecordFits, inside};
+ghost use Rattle.reading_fill.specs.Records.{recordIn, recordSize, recordsIn, recordsSize, metricSize, metricTable, RecordFits};
+ghost use Rattle.reading_fill.specs.Records.{partsSizeIn, partsTableIn, itemsSizeIn, itemsTableIn, inside};
 ghost use Rattle.layout.specs.Reading.Records.{semanticsIn};
 ghost use Rattle.layout.specs.Writing.Tables.{joined, flattenRecord};
 use crate::cursors::Cursor;
@@ -24,7 +24,7 @@ use fields::shapes::Shape;
 use layout::header;
 use layout::row;
 
-// The first part, and so many later ones.
+// Fills the first part, and n later ones.
 fn fill_metric(
     xs: &[u8],
     s: Shape,
@@ -74,7 +74,7 @@ fn record_metric(
     fill_metric(ys, s, count, n, d, table, elements, bytes)
 }
 
-// Its items; the cursor that comes back counts its place from the end of the metric.
+// Fills its items; the cursor that comes back counts its place from the end of the metric.
 fn record_items(xs: &[u8], h: Header, c: Cursor, table: &mut [u64], bytes: &mut [u8]) -> Cursor
     requires { ⌜ Room (inside c) (itemsSizeIn (headerOf h) (ahead c (now xs))) (itemsTableIn (headerOf h) (ahead c (now xs)))
         (length (semanticsIn (headerOf h) (ahead c (now xs)))) (length (now table)) (c .elements) (length (now bytes))
@@ -99,7 +99,7 @@ fn record_items(xs: &[u8], h: Header, c: Cursor, table: &mut [u64], bytes: &mut 
     items::fill_items(ys, d, table, bytes)
 }
 
-// A record.
+// Fills a record: its parts, its items, and last its eight numbers.
 pub fn fill_record(
     xs: &[u8],
     c: Cursor,
@@ -129,12 +129,8 @@ pub fn fill_record(
         bytes: d.bytes,
     };
     let e = record_items(xs, h, behind, table, bytes);
-    rows::put_record(
-        table,
-        c.numbers,
-        h,
-        (e.numbers - d.numbers) / row::ITEM_WIDTH,
-    );
+    let n = (e.numbers - d.numbers) / row::ITEM_WIDTH;
+    rows::put_record(table, c.numbers, h, n);
     Cursor {
         place: at + h.total as usize,
         numbers: e.numbers,
@@ -143,7 +139,7 @@ pub fn fill_record(
     }
 }
 
-// So many records.
+// Fills n records, one after another.
 pub fn fill_records(
     xs: &[u8],
     n: usize,

@@ -72,7 +72,7 @@ fn room(parts: u64, items: u64, left: u64) -> bool
     items <= (free - row::PART_WIDTH_U64 * parts) / row::ITEM_WIDTH_U64
 }
 
-// Code, number in group, group number, and the size of the reference number.
+// The rules on code, number in group and group number, and on the size of the reference number.
 fn name_rules(so_far: Step, a: Row, place: usize) -> Step
     requires { ⌜ place + rowWidth ≤ 2 ^ 64 ⌝ }
     ensures { λ r. ⌜ ((y : ℕ) → Next «so_far» y place (nameRules (rowOf a)) r) ⌝ }
@@ -95,7 +95,7 @@ fn name_rules(so_far: Step, a: Row, place: usize) -> Step
     )
 }
 
-// The reference number, byte by byte as in reading.
+// The rules on the reference number, byte by byte as in reading.
 fn reference_rules(so_far: Step, reference: u64, place: usize, year: u32) -> Step
     requires { ⌜ place + rowWidth ≤ 2 ^ 64 ⌝ }
     ensures { λ r. ⌜ Next «so_far» year place (referenceChecks Column.reference Column.reference Column.reference (referenceOf reference)) r ⌝ }
@@ -114,7 +114,7 @@ fn reference_rules(so_far: Step, reference: u64, place: usize, year: u32) -> Ste
     )
 }
 
-// Generalisation, word, parts and items.
+// The rules on generalisation, word, parts and items.
 fn count_rules(so_far: Step, a: Row, place: usize) -> Step
     requires { ⌜ place + rowWidth ≤ 2 ^ 64 ⌝ }
     ensures { λ r. ⌜ ((y : ℕ) → Next «so_far» y place (countRules (rowOf a)) r) ⌝ }
@@ -139,7 +139,7 @@ fn count_rules(so_far: Step, a: Row, place: usize) -> Step
     demand(s, flagged, TABLE, place, row::ITEMS)
 }
 
-// All checks on a row with so many numbers left.
+// All rules on a row with so many numbers left.
 fn row_rules(a: Row, place: usize, left: usize, year: u32) -> Step
     requires { ⌜ (place + rowWidth ≤ 2 ^ 64) × (rowWidth ≤ left) ⌝ }
     ensures { λ r. ⌜ Next Fine year place (allRules (rowOf a) left) r ⌝ }
@@ -177,7 +177,7 @@ fn take_inside(table: &[u64], elements: &[u64], bytes: &[u8], a: Row, p: Places,
     }
 }
 
-// One record.
+// Takes the row of one record, its parts and its items.
 pub fn take_row(table: &[u64], elements: &[u64], bytes: &[u8], p: Places, year: u32) -> Moved
     requires { ⌜ At (now table) (now bytes) p × (p .element ≤ length (now elements)) ⌝ }
     ensures { λ r. ⌜ r ≡ movedOf flattenRecord recordBytes p

@@ -27,7 +27,7 @@ fn shape_at(table: &[u64], at: usize) -> Shape
     shapes::shape_in(table[at + row::REFERENCE])
 }
 
-// A record.
+// Writes one record.
 pub fn emit_record(
     table: &[u64],
     elements: &[u64],
@@ -67,7 +67,7 @@ pub fn emit_record(
     }
 }
 
-// So many records.
+// Writes n records, one after another.
 pub fn emit_records(
     table: &[u64],
     elements: &[u64],

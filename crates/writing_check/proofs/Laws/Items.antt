@@ -1,10 +1,9 @@
 -- The ways out of an item, over plain variables.
-use mathlib.Core.Bool.{Bool, true, false, cond, not, _||_, _&&_}
+use mathlib.Core.Bool.{Bool}
 use mathlib.Core.List.{List, [], _∷_}
 use mathlib.Core.Path.{_≡_, refl, sym, ap, _∙_}
-use Prim.Native.Nat.{ℕ, _+_, _-_, _%_, _≤_, _<_}
-use borrow.Author.Tests.{leb-true, ltb-true, eqb-true, ne-eqb}
-use lib.Dec.{eqb, leb, ltb}
+use Prim.Native.Nat.{ℕ, _+_, _-_, _≤_, _<_}
+use borrow.Author.Tests.{leb-true, ltb-true, eqb-true}
 use lib.ListN.{length, take, drop, length-drop}
 use lib.Seq.{length-take-le}
 use native.Mathlib.Nat.{add-zero}
@@ -17,85 +16,54 @@ use Rattle.layout.specs.Bytes.{zeros}
 use Rattle.layout.specs.Layout.Fine.{FineItem}
 use Rattle.layout.specs.Layout.Sizes.{itemBytes}
 use Rattle.layout.specs.Layout.Uses.{itemYears}
-use Rattle.layout.specs.Shared.Types.{narrow, wide, integer, double, unknown, kindOf, lengthBytes, valueLength, closing, isClosed}
+use Rattle.layout.specs.Shared.Types.{Kind, kindOf, closing, isClosed}
 use Rattle.layout.specs.Sheet.{Item, Table}
 use Rattle.layout.specs.Walk.{Walk, Check, must, answer, upTo, holds, checks, _>>_, ends}
 use Rattle.layout.specs.Writing.Items.{ItemRow, itemRowIn, itemRules, takeItem}
 use Rattle.layout.specs.Writing.Tables.{table, Taken, taken, flattenItem}
 use Rattle.layout.specs.declared.Refusal.{Refusal}
 use Rattle.laws.proofs.Base.Lists.{last-of}
-use Rattle.laws.proofs.Encoding.Kinds.{good-is, closing-under}
+use Rattle.laws.proofs.Encoding.Kinds.{closing-under}
 use Rattle.laws.proofs.Writing.Items.{item-takes, item-numbers}
 use Rattle.writing_check.proofs.Laws.Moves.{Went, went, stopped, number-after}
-use Rattle.writing_check.specs.Items.{rowOf, valueOf, lengthOf, sizeRules, valueRules}
+use Rattle.writing_check.specs.Items.{rowOf, lengthOf, sizeRules, valueRules}
 use Rattle.writing_check.specs.Places.{capped, here, movedOf, At}
 use Rattle.writing_check.specs.declared.items.ItemNumbers.{ItemNumbers}
-use Rattle.writing_check.specs.declared.items.Value.{Value}
 use Rattle.writing_check.specs.declared.places.Moved.{Moved}
 use Rattle.writing_check.specs.declared.places.Moved.the-variants.{Fine, Refused}
 use Rattle.writing_check.specs.declared.places.Places.{Places}
 
--- only a value of type 128 has its length before it
-pub long-bytes : (t : ℕ) → t ≡ 128 → lengthBytes (kindOf t) ≡ 4
-long-bytes t e = rw e
-
-pub short-bytes : (t : ℕ) → (t ≡ 128 → ⊥) → lengthBytes (kindOf t) ≡ 0
-short-bytes t h = rw (ne-eqb t 128 h) (go (eqb t 0 || eqb t 126) (eqb t 127) (eqb t 1 || eqb t 2 || eqb t 4) (eqb t 8))
-  where
-    go : (a b c d : Bool) → lengthBytes (cond a narrow (cond b wide (cond c (integer t) (cond d double unknown)))) ≡ 0
-    go true b c d = refl
-    go false true c d = refl
-    go false false true d = refl
-    go false false false true = refl
-    go false false false false = refl
-
--- the checks on the value length, by what type and scale say of the value
-abbrev pub sizesBy : ItemNumbers → Value → ℕ → List Check
-sizesBy a k left =
-    must (ltb (a .size) 4294967296) 14 3
-    ∷ must (eqb (a .size) (k .size)) 14 3
-    ∷ must (not (k .long) || (eqb (a .size % 2) 0 && leb 2 (a .size))) 12 3
-    ∷ must (leb (a .size) left) 14 3
-    ∷ []
-
-pub sizes-are : (a : ItemNumbers) (k : Value) (left : ℕ) → k ≡ valueOf (kindOf (a .t)) (a .scale) (a .size) → sizesBy a k left ≡ sizeRules a left
-sizes-are a k left e =
-    ap (λ v. sizesBy a v left) e
-    ∙ ap (λ b. must (ltb (a .size) 4294967296) 14 3 ∷ must (eqb (a .size) (valueLength (kindOf (a .t)) (a .scale) (a .size))) 14 3 ∷ must b 12 3 ∷ must
-    (leb (a .size) left) 14 3 ∷ [])
-    (sym (good-is (kindOf (a .t)) (a .size)))
-
-pub record Sized (a : ItemNumbers) (left : ℕ) : Type 0 where
+pub record Sized (a : ItemNumbers) (k : Kind) (left : ℕ) : Type 0 where
   pub small : a .size < 4294967296
-  pub closes : closing (kindOf (a .t)) ≤ a .size
+  pub closes : closing k ≤ a .size
   pub room : a .size ≤ left
 
-pub sized : (a : ItemNumbers) (left : ℕ) → holds (sizeRules a left) → Sized a left
-sized a left c = record {
+pub sized : (a : ItemNumbers) (k : Kind) (left : ℕ) → holds (sizeRules a k left) → Sized a k left
+sized a k left c = record {
   small = ltb-true _ _ (c .0);
-  closes = closing-under (kindOf (a .t)) (a .scale) (a .size) (a .size) (eqb-true _ _ (c .1 .0)) (c .1 .1 .0);
+  closes = closing-under k (a .scale) (a .size) (a .size) (eqb-true _ _ (c .1 .0)) (c .1 .1 .0);
   room = leb-true _ _ (c .1 .1 .1 .0);
 }
 
 -- the two ways out of the checks on a value, whose pool starts at a place of the bytes xs
-pub value-sized : (a : ItemNumbers) (left p : ℕ) (r : Step) → ((y : ℕ) → Next Stp.Fine y p (sizeRules a left) r) → r ≡ Stp.Fine → Sized a left
-value-sized a left p r n e = sized a left (step-holds 0 p (sizeRules a left) r (n 0) e)
+pub value-sized : (a : ItemNumbers) (k : Kind) (left p : ℕ) (r : Step) → ((y : ℕ) → Next Stp.Fine y p (sizeRules a k left) r) → r ≡ Stp.Fine → Sized a k left
+value-sized a k left p r n e = sized a k left (step-holds 0 p (sizeRules a k left) r (n 0) e)
 
-module _ (y : ℕ) (xs : List ℕ) (at : ℕ) (a : ItemNumbers) (p : ℕ) (r : Step) (n : Next Stp.Fine y p (sizeRules a (length xs - at)) r) where
-  here-sizes : Next Stp.Fine y p (sizeRules a (length (drop at xs))) r
-  here-sizes = as-checks (ap (λ k. sizeRules a k) (sym (length-drop at xs))) n
+module _ (y : ℕ) (xs : List ℕ) (at : ℕ) (a : ItemNumbers) (k : Kind) (p : ℕ) (r : Step) (n : Next Stp.Fine y p (sizeRules a k (length xs - at)) r) where
+  here-sizes : Next Stp.Fine y p (sizeRules a k (length (drop at xs))) r
+  here-sizes = as-checks (ap (λ l. sizeRules a k l) (sym (length-drop at xs))) n
 
-  pub value-closed : at ≤ length xs → r ≡ Stp.Fine → (c : ℕ) → c ≡ closing (kindOf (a .t)) → (part : List ℕ) → part ≡ take c (drop (at + a .size - c) xs)
-      → (b : Bool) → b ≡ zeros part → (s : Step) → Next Stp.Fine y p (must b 6 3 ∷ []) s → Next Stp.Fine y p (valueRules a (drop at xs)) s
-  value-closed l e c k part g b z s m =
-      let w = sized a (length xs - at) (step-holds y p _ r n e) in
-      let h : b ≡ isClosed (kindOf (a .t)) (take (a .size) (drop at xs)) =
+  pub value-closed : at ≤ length xs → r ≡ Stp.Fine → (c : ℕ) → c ≡ closing k → (part : List ℕ) → part ≡ take c (drop (at + a .size - c) xs)
+      → (b : Bool) → b ≡ zeros part → (s : Step) → Next Stp.Fine y p (must b 6 3 ∷ []) s → Next Stp.Fine y p (valueRules a k (drop at xs)) s
+  value-closed l e c f part g b z s m =
+      let w = sized a k (length xs - at) (step-holds y p _ r n e) in
+      let h : b ≡ isClosed k (take (a .size) (drop at xs)) =
       z ∙ ap zeros g ∙ ap zeros (sym (last-of xs at (a .size) c (omega (arith, w)) (omega (arith, w))))
-      ∙ ap (λ c. zeros (drop (length (take (a .size) (drop at xs)) - c) (take (a .size) (drop at xs)))) k in
-      then-on y p (sizeRules a (length (drop at xs))) r here-sizes e _ s (as-checks (ap (λ b. must b 6 3 ∷ []) h) m)
+      ∙ ap (λ c. zeros (drop (length (take (a .size) (drop at xs)) - c) (take (a .size) (drop at xs)))) f in
+      then-on y p (sizeRules a k (length (drop at xs))) r here-sizes e _ s (as-checks (ap (λ b. must b 6 3 ∷ []) h) m)
 
-  pub value-open : (q : Refusal) → r ≡ Stp.Refused q → Next Stp.Fine y p (valueRules a (drop at xs)) (Stp.Refused q)
-  value-open q e = then-stop y p (sizeRules a (length (drop at xs))) r here-sizes q e _
+  pub value-open : (q : Refusal) → r ≡ Stp.Refused q → Next Stp.Fine y p (valueRules a k (drop at xs)) (Stp.Refused q)
+  value-open q e = then-stop y p (sizeRules a k (length (drop at xs))) r here-sizes q e _
 
 -- an item whose row is so
 abbrev itemWith : ItemRow → ℕ → Table → Walk (Taken Item)
@@ -127,7 +95,7 @@ module _ (y : ℕ) (ns es pool : List ℕ) (p : Places) (a : ItemNumbers) (row :
       sym (ap (movedOf flattenItem itemBytes p)
       (ap (answer (upTo y)) (sym (with-row a (p .number) t row)) ∙ step-stop y (p .number) (itemRules (rowOf a) (t .bytes)) r n _ q e))
 
-  pub item-fine : r ≡ Stp.Fine → (len : ℕ) → len ≡ capped (p .length + lengthOf a)
+  pub item-fine : r ≡ Stp.Fine → (len : ℕ) → len ≡ capped (p .length + lengthOf a (kindOf (a .t)))
       → Fine (record { number = p .number + 4; element = p .element; byte = p .byte + a .size; length = len })
       ≡ movedOf flattenItem itemBytes p (answer (upTo y) (takeItem (p .number) t))
   unfolding flattenItem

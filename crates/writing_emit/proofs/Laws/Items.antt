@@ -1,10 +1,7 @@
 -- An item in pass 2, over plain variables: what the code asks and what it has done.
-use mathlib.Core.Bool.{Bool, true, false, cond, _||_}
 use mathlib.Core.List.{List, [], _∷_, _++_}
 use mathlib.Core.Path.{_≡_, refl, ap, sym, _∙_}
 use Prim.Native.Nat.{ℕ, _+_, _≤_, _<_, _^_}
-use borrow.Author.Tests.{ne-eqb}
-use lib.Dec.{eqb}
 use lib.ListN.{length, take, drop, getD, length-append}
 use lib.Seq.{sets, take-at}
 use native.Mathlib.Omega.{arith}
@@ -15,7 +12,7 @@ use Rattle.layout.specs.Bytes.{bytes}
 use Rattle.layout.specs.Layout.Encode.{encodeItem}
 use Rattle.layout.specs.Layout.Fine.{FineItem}
 use Rattle.layout.specs.Shared.Row
-use Rattle.layout.specs.Shared.Types.{narrow, wide, integer, double, unknown, kindOf, lengthBytes}
+use Rattle.layout.specs.Shared.Types.{Kind, kindOf, lengthBytes}
 use Rattle.layout.specs.Sheet.{Item, Table}
 use Rattle.layout.specs.Writing.Tables.{flattenItem}
 use Rattle.laws.proofs.Base.Numbers.{length-bytes}
@@ -24,25 +21,11 @@ use Rattle.writing_emit.proofs.Laws.Moves.{sets-twice, emitted}
 use Rattle.writing_emit.proofs.Laws.Headers.{nth-first, nth-at}
 use Rattle.writing_emit.proofs.Laws.Unique.{item-unique}
 
--- only type 128 has a length before its value
-pub length-long : (t : ℕ) → t ≡ 128 → 4 ≡ lengthBytes (kindOf t)
-length-long t e = rw e refl
-
-pub length-other : (t : ℕ) → (t ≡ 128 → ⊥) → 0 ≡ lengthBytes (kindOf t)
-length-other t e = rw (ne-eqb t 128 e) (go (eqb t 0 || eqb t 126) (eqb t 127) (eqb t 1 || eqb t 2 || eqb t 4) (eqb t 8))
-  where
-    go : (a b c d : Bool) → 0 ≡ lengthBytes (cond a narrow (cond b wide (cond c (integer t) (cond d double unknown))))
-    go true b c d = refl
-    go false true c d = refl
-    go false false true d = refl
-    go false false false true = refl
-    go false false false false = refl
-
 -- code, type and scale
-pub head-wrote : (o₀ o₁ o₂ o₃ : List ℕ) (w code kind scale : ℕ) → o₁ ≡ sets o₀ w (bytes 2 code) → o₂ ≡ sets o₁ (w + 2) (bytes 1 kind)
-    → o₃ ≡ sets o₂ (w + 3) (bytes 1 scale) → o₃ ≡ sets o₀ w (bytes 2 code ++ bytes 1 kind ++ bytes 1 scale)
-head-wrote o₀ o₁ o₂ o₃ w code kind scale e f g =
-    sets-twice o₀ o₂ o₃ w (bytes 2 code ++ bytes 1 kind) (bytes 1 scale) (sets-twice o₀ o₁ o₂ w (bytes 2 code) (bytes 1 kind) e f) g
+pub head-wrote : (o₀ o₁ o₂ o₃ : List ℕ) (w code t scale : ℕ) → o₁ ≡ sets o₀ w (bytes 2 code) → o₂ ≡ sets o₁ (w + 2) (bytes 1 t)
+    → o₃ ≡ sets o₂ (w + 3) (bytes 1 scale) → o₃ ≡ sets o₀ w (bytes 2 code ++ bytes 1 t ++ bytes 1 scale)
+head-wrote o₀ o₁ o₂ o₃ w code t scale e f g =
+    sets-twice o₀ o₂ o₃ w (bytes 2 code ++ bytes 1 t) (bytes 1 scale) (sets-twice o₀ o₁ o₂ w (bytes 2 code) (bytes 1 t) e f) g
 
 -- the item at the cursor
 module _ (ns bs : List ℕ) (c : Cursor) (ol : ℕ) (p : Piece flattenItem FineItem encodeItem c (tableOf ns [] bs) ol) where
@@ -88,44 +71,46 @@ module _ (ns bs : List ℕ) (c : Cursor) (ol : ℕ) (p : Piece flattenItem FineI
       let e : i .value ++ p .rest .bytes ≡ drop (c .byte) bs = ap (λ (t : Table). t .bytes) (p .is) in
       ap (λ l. take (getD ns (c .number + 3) 0) l) (sym e) ∙ take-at (i .value) (p .rest .bytes) _ (sym (item-reads .3))
 
-  module _ (k : ℕ) (ek : k ≡ lengthBytes (kindOf (getD ns (c .number + 1) 0))) where
-    item-moved : record {
-      number = c .number + 4;
-      element = c .element;
-      byte = c .byte + getD ns (c .number + 3) 0;
-      out =
-          c .out + 4 + k + getD ns (c .number + 3) 0;
-    }
+  module _ (k : Kind) (is : k ≡ kindOf (getD ns (c .number + 1) 0)) (before : ℕ) (eb : before ≡ lengthBytes k) where
+    -- what the code writes before the length, and how long the value is
+    abbrev head : List ℕ
+    head = bytes 2 (getD ns (c .number) 0) ++ bytes 1 (getD ns (c .number + 1) 0) ++ bytes 1 (getD ns (c .number + 2) 0)
+
+    abbrev size : ℕ
+    size = getD ns (c .number + 3) 0
+
+    ek : before ≡ lengthBytes (kindOf (getD ns (c .number + 1) 0))
+    ek = eb ∙ ap lengthBytes is
+
+    item-moved : record { number = c .number + 4; element = c .element; byte = c .byte + size; out = c .out + 4 + before + size }
         ≡ moved c (flattenItem i) (encodeItem i)
     unfolding flattenItem
     item-moved =
         let r = item-reads in
-        let kk : k ≡ lengthBytes (kindOf (i .type)) = ek ∙ ap (λ t. lengthBytes (kindOf t)) (r .1) in
+        let kk : before ≡ lengthBytes (kindOf (i .type)) = ek ∙ ap (λ t. lengthBytes (kindOf t)) (r .1) in
         let z : c .element ≡ c .element + 0 = omega arith in
-        let o : c .out + 4 + k + getD ns (c .number + 3) 0 ≡ c .out + length (encodeItem i) = omega (arith, item-length i, kk, r .3) in
+        let o : c .out + 4 + before + size ≡ c .out + length (encodeItem i) = omega (arith, item-length i, kk, r .3) in
         λ j. record { number = c .number + 4; element = z j; byte = c .byte + r .3 j; out = o j }
 
-    item-wrote : (o₀ o₁ o₂ o₃ : List ℕ)
-        → o₁ ≡ sets o₀ (c .out) (bytes 2 (getD ns (c .number) 0) ++ bytes 1 (getD ns (c .number + 1) 0) ++ bytes 1 (getD ns (c .number + 2) 0))
-        → o₂ ≡ sets o₁ (c .out + 4) (bytes (lengthBytes (kindOf (getD ns (c .number + 1) 0))) (getD ns (c .number + 3) 0))
-        → o₃ ≡ sets o₂ (c .out + 4 + k) (take (getD ns (c .number + 3) 0) (drop (c .byte) bs)) → o₃ ≡ sets o₀ (c .out) (encodeItem i)
+    item-wrote : (o₀ o₁ o₂ o₃ : List ℕ) → o₁ ≡ sets o₀ (c .out) head
+        → o₂ ≡ sets o₁ (c .out + 4) (bytes (lengthBytes k) size)
+        → o₃ ≡ sets o₂ (c .out + 4 + before) (take size (drop (c .byte) bs)) → o₃ ≡ sets o₀ (c .out) (encodeItem i)
     unfolding encodeItem
     item-wrote o₀ o₁ o₂ o₃ e f g =
         let r = item-reads in
         let h = bytes 2 (i .code) ++ bytes 1 (i .type) ++ bytes 1 (i .scale) in
         let l = bytes (lengthBytes (kindOf (i .type))) (length (i .value)) in
         let e1 : o₁ ≡ sets o₀ (c .out) h = e ∙ rw (r .0, r .1, r .2) refl in
-        let f1 : o₂ ≡ sets o₁ (c .out + 4) l = f ∙ rw (r .1, r .3) refl in
-        let place : c .out + 4 + k ≡ c .out + length (h ++ l) =
+        let f1 : o₂ ≡ sets o₁ (c .out + 4) l = f ∙ rw (is, r .1, r .3) refl in
+        let place : c .out + 4 + before ≡ c .out + length (h ++ l) =
         omega (arith, ek ∙ ap (λ t. lengthBytes (kindOf t)) (r .1), length-append h l, length-bytes (lengthBytes (kindOf (i .type))) (length (i .value))) in
         let g1 : o₃ ≡ sets o₂ (c .out + length (h ++ l)) (i .value) = g ∙ rw (value-is, place) refl in
         sets-twice o₀ o₂ o₃ (c .out) (h ++ l) (i .value) (sets-twice o₀ o₁ o₂ (c .out) h l e1 f1) g1
 
-    pub item-did : (o₀ o₁ o₂ o₃ : List ℕ)
-        → o₁ ≡ sets o₀ (c .out) (bytes 2 (getD ns (c .number) 0) ++ bytes 1 (getD ns (c .number + 1) 0) ++ bytes 1 (getD ns (c .number + 2) 0))
-        → o₂ ≡ sets o₁ (c .out + 4) (bytes (lengthBytes (kindOf (getD ns (c .number + 1) 0))) (getD ns (c .number + 3) 0))
-        → o₃ ≡ sets o₂ (c .out + 4 + k) (take (getD ns (c .number + 3) 0) (drop (c .byte) bs))
+    pub item-did : (o₀ o₁ o₂ o₃ : List ℕ) → o₁ ≡ sets o₀ (c .out) head
+        → o₂ ≡ sets o₁ (c .out + 4) (bytes (lengthBytes k) size)
+        → o₃ ≡ sets o₂ (c .out + 4 + before) (take size (drop (c .byte) bs))
         → Emitted flattenItem FineItem encodeItem c (tableOf ns [] bs) o₀ o₃
-        (record { number = c .number + 4; element = c .element; byte = c .byte + getD ns (c .number + 3) 0; out = c .out + 4 + k + getD ns (c .number + 3) 0 })
+        (record { number = c .number + 4; element = c .element; byte = c .byte + size; out = c .out + 4 + before + size })
     item-did o₀ o₁ o₂ o₃ e f g =
         emitted flattenItem FineItem encodeItem item-unique c (tableOf ns [] bs) o₀ o₃ _ i (p .rest) (p .fine) (p .is) item-moved (item-wrote o₀ o₁ o₂ o₃ e f g)

@@ -1,3 +1,4 @@
+-- The loop keeps `Hops`: the headers still to pass lie within the sheet, and hopping on from here leads to the same place; one hop a turn.
 use native.Mathlib.Omega.{arith}
 use mathlib.Core.Path.{_≡_, refl, ap, sym, _∙_}
 use denote.Ref.{now}
@@ -20,32 +21,33 @@ loop-holds c = (c .before .pre, refl)
 
 header-at-requires : tie.Need-header-at-requires Inv-loop μ-loop
 header-at-requires c κs =
-    let start = c .before .before .before in
-    let loop = c .before .loop in
-    hop-header (loop .left) (loop .at) (now (start .args .s)) (omega arith) (loop .inv .0)
+    let at-loop = c .before in
+    let start = at-loop .before .before in
+    hop-header (at-loop .loop .left) (at-loop .loop .at) (now (start .args .s)) (omega arith) (at-loop .loop .inv .0)
 
-abbrev turn : (m : tie.After-header-at Inv-loop μ-loop)
-    → Hop (m .before .before .loop .left) (m .before .before .loop .at) (now (m .before .before .before .before .args .s)) (m .header-at .result .total)
+-- one turn, once its header is read
+turn : (m : tie.After-header-at Inv-loop μ-loop)
+    → let loop = m .before .before in Hop (loop .loop .left) (loop .loop .at) (now (loop .before .before .args .s)) (m .header-at .result .total)
 unfolding headerOf
 turn m =
-    let start = m .before .before .before .before in
-    let loop = m .before .before .loop in
-    hop-turn (loop .left) (loop .at) (now (start .args .s)) _ (omega arith) (loop .inv .0) (ap (λ (h : Header). h .total) (m .header-at .ensures))
+    let at-loop = m .before .before in
+    let start = at-loop .before .before in
+    hop-turn (at-loop .loop .left) (at-loop .loop .at) (now (start .args .s)) _ (omega arith) (at-loop .loop .inv .0)
+    (ap (λ (h : Header). h .total) (m .header-at .ensures))
 
 add-at : tie.Need-add-at Inv-loop μ-loop
 add-at c = omega (arith, turn (c .before) .within)
 
 loop-again : tie.Need-loop-again Inv-loop μ-loop
 loop-again c =
-    let loop = c .before .before .before .loop in
     let h = turn (c .before) in
-    (h .hops, h .place ∙ loop .inv .1)
+    (h .hops, h .place ∙ c .before .before .before .loop .inv .1)
 
 returns : tie.Need-returns Inv-loop μ-loop
 returns c =
-    let start = c .before .before .before in
-    let loop = c .before .loop in
-    sym (hop-done (loop .left) (loop .at) (now (start .args .s)) (omega arith)) ∙ loop .inv .1
+    let at-loop = c .before in
+    let start = at-loop .before .before in
+    sym (hop-done (at-loop .loop .left) (at-loop .loop .at) (now (start .args .s)) (omega arith)) ∙ at-loop .loop .inv .1
 
 pub place-of-spec : {M : Type 1} → statement M
 place-of-spec =

@@ -9,13 +9,21 @@ use Rattle.reading.proofs.records.record_by.Tie as tie
 returns : tie.Need-returns
 unfolding headerOf
 returns c =
-    let reference-number = c .before .before .before .reference-number in
-    let header = c .before .before .before .before .before in
+    let after-reference-number = c .before .before .before in
+    let header = after-reference-number .before .before in
     let start = header .before .before in
-    rw (reference-number .ensures, c .before .items-of .ensures, c .first-count .ensures)
+    rw (after-reference-number .reference-number .ensures, c .before .items-of .ensures, c .first-count .ensures)
     (ap (λ h. recordBy (start .args .place) (start .args .count) h) (header .header-at .ensures))
 
 pub record-by-spec : {M : Type 1} → statement M
-record-by-spec = tie.close
-    (tie.spec (λ c κs. search needs) (λ c. search needs) (λ c κs. search needs) (λ c. search needs) (λ c. search needs) (λ c κs. search needs)
-    (λ c κs. search needs) returns)
+record-by-spec =
+    tie.close
+    (tie.spec
+    (λ c κs. search needs)
+    (λ c. search needs)
+    (λ c κs. search needs)
+    (λ c. search needs)
+    (λ c. search needs)
+    (λ c κs. search needs)
+    (λ c κs. search needs)
+    returns)

@@ -1,3 +1,4 @@
+-- A metric's refusal is the answer (`rest-stop`), otherwise what the semantics answer after header and metric are counted (`rest-on`).
 use native.Mathlib.Omega.{arith}
 use mathlib.Core.Path.{ap}
 use denote.Ref.{now}
@@ -9,54 +10,60 @@ use borrow.Author.Needs.{needs}
 use Rattle.reading_check.proofs.records.rest.Statement.{statement}
 use Rattle.reading_check.proofs.records.rest.Tie as tie
 
+abbrev to-first-count : tie.After-metric → tie.After-first-count
+to-first-count p = p .before .before .before
+
+abbrev to-start : tie.After-metric → tie.Start
+to-start p = to-first-count p .before .before .before .before
+
 sum-requires : tie.Need-sum-requires
 unfolding headerOf
 sum-requires c κs =
-    let start = c .before .before .before .before .before .before .before .before .before .before in
-    let metric = c .before .before .before .metric in
+    let after-metric = c .before .before .before in
+    let start = to-start after-metric in
     let n = metric-length (now (start .args .xs)) (headerOf (start .args .h)) (start .pre .1) in
-    let w = within-fine _ _ (metric .result) _ (c .before .m .given .1) (metric .ensures .1) in
+    let w = within-fine _ _ (after-metric .metric .result) _ (c .before .m .given .1) (after-metric .metric .ensures .1) in
     omega (arith, w, n, start .pre)
 
 semantics-requires : tie.Need-semantics-requires
 unfolding headerOf
 semantics-requires c κs =
-    let start = c .before .before .before .before .before .before .before .before .before .before .before .before .before in
-    let metric = c .before .before .before .before .before .before .metric in
-    let m = c .before .before .before .before .m in
-    let sum = c .before .before .sum in
+    let after-sum = c .before .before in
+    let after-m = after-sum .before .before in
+    let after-metric = after-m .before .before in
+    let start = to-start after-metric in
     let n = metric-length (now (start .args .xs)) (headerOf (start .args .h)) (start .pre .1) in
     let s = semantics-length (now (start .args .xs)) (headerOf (start .args .h)) (start .pre .1) in
-    let w = within-fine _ _ (metric .result) _ (m .given .1) (metric .ensures .1) in
-    let g = start .pre in
-    rw (sum .ensures) (omega (arith, w, n, s, g), omega (arith, w, n, s, g), omega (arith, w, n, s, g))
+    let w = within-fine _ _ (after-metric .metric .result) _ (after-m .m .given .1) (after-metric .metric .ensures .1) in
+    rw (after-sum .sum .ensures) (omega (arith, w, n, s, start .pre), omega (arith, w, n, s, start .pre), omega (arith, w, n, s, start .pre))
 
 returns : tie.Need-returns
 unfolding headerOf
 returns c =
-    let start = c .before .before .before .before .before .before .before .before .before .before .before .before .before .before in
-    let first-count = c .before .before .before .before .before .before .before .before .before .before .first-count in
-    let metric = c .before .before .before .before .before .before .before .metric in
-    let m = c .before .before .before .before .before .m in
-    let sum = c .before .before .before .sum in
+    let after-sum = c .before .before .before in
+    let after-m = after-sum .before .before in
+    let after-metric = after-m .before .before in
+    let after-first-count = to-first-count after-metric in
+    let start = to-start after-metric in
     let n = metric-length (now (start .args .xs)) (headerOf (start .args .h)) (start .pre .1) in
     let s = semantics-length (now (start .args .xs)) (headerOf (start .args .h)) (start .pre .1) in
-    let w = within-fine _ _ (metric .result) _ (m .given .1) (metric .ensures .1) in
-    let g = start .pre in (
-      rest-on (now (start .args .xs)) (headerOf (start .args .h)) (start .pre .1) (start .args .year) (start .args .p) (first-count .result)
-          (first-count .ensures) (metric .result) (metric .ensures .0 (start .args .year)) _ (m .given .1) (sum .result) (sum .ensures) _
-          (c .semantics .ensures .0),
-      within-more _ _ _ (c .semantics .result) (omega (arith, w, n, s, g, ap (λ (t : Tally). t .used) (sum .ensures))) (c .semantics .ensures .1),
+    let w = within-fine _ _ (after-metric .metric .result) _ (after-m .m .given .1) (after-metric .metric .ensures .1) in (
+      rest-on (now (start .args .xs)) (headerOf (start .args .h)) (start .pre .1) (start .args .year) (start .args .p) (after-first-count .first-count .result)
+          (after-first-count .first-count .ensures) (after-metric .metric .result) (after-metric .metric .ensures .0 (start .args .year)) _
+          (after-m .m .given .1) (after-sum .sum .result) (after-sum .sum .ensures) _ (c .semantics .ensures .0),
+      within-more _ _ _ (c .semantics .result) (omega (arith, w, n, s, start .pre, ap (λ (t : Tally). t .used) (after-sum .sum .ensures)))
+          (c .semantics .ensures .1),
     )
 
 returns-2 : tie.Need-returns-2
 unfolding headerOf
 returns-2 c =
-    let start = c .before .before .before .before .before .before .before .before .before .before in
-    let first-count = c .before .before .before .before .before .before .first-count in
-    let metric = c .before .before .before .metric in (
-      rest-stop (now (start .args .xs)) (headerOf (start .args .h)) (start .pre .1) (start .args .year) (start .args .p) (first-count .result)
-          (first-count .ensures) (metric .result) (metric .ensures .0 (start .args .year)) _ (c .before .r .given .1),
+    let after-metric = c .before .before .before in
+    let after-first-count = to-first-count after-metric in
+    let start = to-start after-metric in (
+      rest-stop (now (start .args .xs)) (headerOf (start .args .h)) (start .pre .1) (start .args .year) (start .args .p)
+          (after-first-count .first-count .result) (after-first-count .first-count .ensures) (after-metric .metric .result)
+          (after-metric .metric .ensures .0 (start .args .year)) _ (c .before .r .given .1),
       tt,
     )
 

@@ -17,13 +17,16 @@ header m = m .before .before .before .before .before
 abbrev metric : tie.After-record-items → tie.After-record-metric
 metric i = i .before .before .before .before .before .before .before .before .before
 
+abbrev to-record-items : tie.After-struct-known3 → tie.After-record-items
+to-record-items p = p .before .before .before .before .before .before
+
 header-at-requires : tie.Need-header-at-requires
 header-at-requires c κs =
     let s = c .before .before .before .before in
     record-header (s .args .xs .now) (s .args .c) (s .pre .1) _ _ _ _ (s .pre .0) .0
 
-add-put-record : tie.Need-add-put-record
-add-put-record c =
+add-n : tie.Need-add-n
+add-n c =
     let s = start (c .before) in
     omega (arith, record-header (s .args .xs .now) (s .args .c) (s .pre .1) _ _ _ _ (s .pre .0))
 
@@ -41,9 +44,9 @@ record-items-requires c κs =
     let parts = rw (h .header-at .ensures) at (m .record-metric .ensures) in
     rw (h .header-at .ensures) (items-kept (s .args .xs .now) (s .args .c) (s .pre .1) _ _ _ _ (s .pre .0) _ (parts .0) _ _ _ (parts .1))
 
-sub-put-record : tie.Need-sub-put-record
-sub-put-record c =
-    let i = c .before .before .before .before .before .before .before in
+sub-n : tie.Need-sub-n
+sub-n c =
+    let i = to-record-items c in
     let h = header (metric i) in
     let s = start h in
     let parts = rw (h .header-at .ensures) at (metric i .record-metric .ensures) in
@@ -52,29 +55,29 @@ sub-put-record c =
 
 put-record-requires : tie.Need-put-record-requires
 put-record-requires c κs =
-    let i = c .before .before .before .before .before .before .before in
+    let i = to-record-items (c .before) in
     let h = header (metric i) in
     let s = start h in
     let parts = rw (h .header-at .ensures) at (metric i .record-metric .ensures) in
     let items = rw (h .header-at .ensures) at (i .record-items .ensures) in
     header-room (s .args .xs .now) (s .args .c) (s .pre .1) _ _ _ _ (s .pre .0) _ _ _ (parts .1) _ _ _ (items .1)
 
-add-t26 : tie.Need-add-t26
+add-t27 : tie.Need-add-t27
 unfolding headerOf
-add-t26 c =
-    let h = header (metric (c .before .before .before .before .before .before .before .before .before .before .before)) in
+add-t27 c =
+    let h = header (metric (to-record-items (c .before .before .before .before .before))) in
     let s = start h in
-    let g = s .good in
-    omega (arith, record-header (s .args .xs .now) (s .args .c) (s .pre .1) _ _ _ _ (s .pre .0), ap (λ (k : Header). k .total) (h .header-at .ensures), g)
+    omega (arith, record-header (s .args .xs .now) (s .args .c) (s .pre .1) _ _ _ _ (s .pre .0), ap (λ (k : Header). k .total) (h .header-at .ensures), s .good)
 
 returns : tie.Need-returns
 returns c =
-    let i = c .before .before .before .before .before .before .before .before .before .before .before in
+    let after-put-record = c .before .before .before in
+    let i = to-record-items (after-put-record .before .before) in
     let h = header (metric i) in
     let s = start h in
     let parts = rw (h .header-at .ensures) at (metric i .record-metric .ensures) in
     let items = rw (h .header-at .ensures) at (i .record-items .ensures) in
-    let row = rw (h .header-at .ensures) at (c .before .before .before .put-record .ensures) in (
+    let row = rw (h .header-at .ensures) at (after-put-record .put-record .ensures) in (
       record-moved (s .args .xs .now) (s .args .c) (s .pre .1) _ _ (parts .0) (items .0) _ (h .header-at .ensures),
       record-wrote (s .args .xs .now) (s .args .c) (s .pre .1) _ _ (parts .0) (items .0) _ _ _ _ _ _ _ _ _ (parts .1) (items .1) row,
     )
@@ -84,13 +87,13 @@ fill-record-spec =
     tie.close
     (tie.spec
     header-at-requires
-    add-put-record
+    add-n
     record-metric-requires
     record-items-requires
-    sub-put-record
+    sub-n
     put-record-requires
     (λ c. search needs)
-    add-t26
+    add-t27
     (λ c. search needs)
     (λ c. search needs)
     (λ c. search needs)

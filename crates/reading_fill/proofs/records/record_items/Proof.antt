@@ -5,11 +5,14 @@ use borrow.Author.Needs.{needs}
 use Rattle.reading_fill.proofs.records.record_items.Statement.{statement}
 use Rattle.reading_fill.proofs.records.record_items.Tie as tie
 
+abbrev to-start : tie.After-part → tie.Start
+to-start p = p .before .before .before .before .before .before .before
+
 fill-items-requires : tie.Need-fill-items-requires
 unfolding headerOf
 fill-items-requires c κs =
     let part = c .before .before in
-    let start = part .before .before .before .before .before .before .before in
+    let start = to-start part in
     rw (part .part .ensures, after-is (start .args .xs .now) (start .args .c .place) (headerOf (start .args .h))) (start .pre .0)
 
 returns : tie.Need-returns
@@ -17,7 +20,7 @@ unfolding headerOf
 returns c =
     let items = c .before .before .before .before in
     let part = items .before .before .before in
-    let start = part .before .before .before .before .before .before .before in
+    let start = to-start part in
     rw (part .part .ensures, after-is (start .args .xs .now) (start .args .c .place) (headerOf (start .args .h))) at (items .fill-items .ensures)
 
 pub record-items-spec : {M : Type 1} → statement M

@@ -8,15 +8,19 @@ use borrow.Author.Needs.{needs}
 use Rattle.reading_fill.proofs.records.record_metric.Statement.{statement}
 use Rattle.reading_fill.proofs.records.record_metric.Tie as tie
 
+abbrev to-start : tie.After-shape-of → tie.Start
+to-start p = p .before .before .before .before .before .before
+
 fill-metric-requires : tie.Need-fill-metric-requires
 unfolding headerOf
 fill-metric-requires c κs =
     let part = c .before .before .before in
-    let shape = part .before .before .before .before in
-    let start = shape .before .before .before .before .before .before in (
+    let after-first-count = part .before .before .before in
+    let shape = after-first-count .before in
+    let start = to-start shape in (
       rw (
         shape .shape-of .ensures,
-        part .before .before .before .first-count .ensures,
+        after-first-count .first-count .ensures,
         part .part .ensures,
         part-length (start .args .xs .now) (start .args .c .place + 32) (start .args .h .metric) (omega (arith, start .pre .1)),
         metric-is (start .args .xs .now) (start .args .c .place) (headerOf (start .args .h)),
@@ -29,11 +33,12 @@ unfolding headerOf
 returns c =
     let metric = c .before .before .before .before .before .before in
     let part = metric .before .before .before .before in
-    let shape = part .before .before .before .before in
-    let start = shape .before .before .before .before .before .before in
+    let after-first-count = part .before .before .before in
+    let shape = after-first-count .before in
+    let start = to-start shape in
     rw (
       shape .shape-of .ensures,
-      part .before .before .before .first-count .ensures,
+      after-first-count .first-count .ensures,
       part .part .ensures,
       metric-is (start .args .xs .now) (start .args .c .place) (headerOf (start .args .h)),
     ) at (metric .fill-metric .ensures)

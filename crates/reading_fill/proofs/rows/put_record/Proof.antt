@@ -35,7 +35,7 @@ same-length c = simp length-set
 
 returns : tie.Need-returns
 unfolding headerOf rowOf
-returns c = let reference = c .before .before .before .reference-number in simp (unary-clauses, reference .ensures) refl
+returns c = simp (unary-clauses, c .before .before .before .reference-number .ensures) refl
 
 pub put-record-spec : {M : Type 1} → statement M
 put-record-spec =

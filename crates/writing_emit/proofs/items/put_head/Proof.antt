@@ -6,12 +6,12 @@ use Rattle.writing_emit.proofs.items.put_head.Tie as tie
 
 returns : tie.Need-returns
 returns c =
-    let after-put-u82 = c .before .before in
-    let after-put-u8 = after-put-u82 .before .before .before .before in
-    let after-put-u16 = after-put-u8 .before .before .before .before in
-    let start = after-put-u16 .before .before .before in
-    head-wrote (start .args .out .now) _ _ _ (start .args .w) (start .args .code) (start .args .kind) (start .args .scale) (after-put-u16 .put-u16 .ensures)
-    (after-put-u8 .put-u8 .ensures) (after-put-u82 .put-u82 .ensures)
+    let start = c .before .before .before .before .before .before .before .before .before .before .before .before .before in
+    let put-u16 = c .before .before .before .before .before .before .before .before .before .before .put-u16 in
+    let put-u8 = c .before .before .before .before .before .before .put-u8 in
+    let put-u82 = c .before .before .put-u82 in
+    head-wrote (start .args .out .now) _ _ _ (start .args .w) (start .args .code) (start .args .t) (start .args .scale) (put-u16 .ensures)
+    (put-u8 .ensures) (put-u82 .ensures)
 
 pub put-head-spec : {M : Type 1} → statement M
 put-head-spec =
