@@ -1,120 +1,119 @@
-// The calls that answer one record, the head, the unit and the plane corners of a sheet. (01, The record table; Passport)
-use crate::answers::Answer;
-use crate::answers::BITS;
-use crate::answers::DEGREES;
-use crate::answers::DEVICE_POINTS;
-use crate::answers::DOUBLES;
-use crate::answers::HEAD;
-use crate::answers::METRES;
-use crate::answers::RADIANS;
-use crate::answers::RECORD;
-use crate::answers::UNIT;
-use crate::answers::UNKNOWN;
-use crate::answers::answer_of;
-use crate::answers::refused;
-use crate::answers::too_new;
-use crate::questions::corners_of;
-use crate::questions::head_of;
-use crate::questions::record_at;
-use crate::questions::unit_of;
-use crate::sheets::Sheet;
-use crate::sheets::e;
-use crate::sheets::p;
-use crate::sheets::put;
-use crate::sheets::put_all;
-use crate::sheets::q;
-use crate::tally::Tally;
-use crate::tally::case;
-use crate::unfolding::two_records;
+// Runs the call of a line, on the form that its words have filled.
+ghost use Prim.Native.Nat.{_≤_};
+use crate::lists;
+use crate::lists::Bytes;
+use crate::lists::Form;
+use crate::names;
+use crate::print;
+use crate::reader;
+use crate::values;
+use crate::writer;
+use layout::years;
+use reading::setting::Made;
 use reading::setting::Setting;
+use reading::units::unit_of;
 
-// Of Q the listing prints 0 452 42 0 0 0 2 1 1: the localisation 2 is the low half of byte 20. (01, Sheets to try)
-fn records(t: Tally) -> Tally {
-    let at = Setting::Y2017;
-    let stated = answer_of(RECORD, &[452, 42, 0, 0, 0, 514, 255, 0, 1, 1, 1]);
-    let t = case(t, b"Q, record 0", record_at(q(), at, 0), stated);
-    let s = two_records();
-    let stated = answer_of(RECORD, &[452, 54, 7, 8, 9, 524291, 36, 10, 2, 0, 1]);
-    let t = case(t, b"record 0 of two", record_at(s, at, 0), stated);
-    let stated = answer_of(RECORD, &[506, 42, 0, 0, 0, 514, 255, 0, 1, 1, 1]);
-    case(t, b"record 1 of two", record_at(s, at, 1), stated)
+// How many numbers a call is asked with. They stand from 513 on.
+fn asked(call: u64) -> u64 {
+    match call {
+        names::COORDINATE => 6,
+        names::UNFOLD | names::UNITS => 4,
+        names::VALUE => 3,
+        names::RECORD | names::WRITE | names::VISIBILITY => 2,
+        _ => 1,
+    }
 }
 
-// ASK: "record number not below the count", after the sheet's own refusals.
-fn no_record(t: Tally) -> Tally {
-    let at = Setting::Y2017;
-    let t = case(t, b"E, record 0", record_at(e(), at, 0), refused(16, 0));
-    let t = case(t, b"Q, record 1", record_at(q(), at, 1), refused(16, 0));
-    let answered = record_at(q(), at, 0xFFFFFFFF);
-    let t = case(t, b"Q, record 2^32 - 1", answered, refused(16, 0));
-    let answered = record_at(put(p(), 472, 18), Setting::Y2015, 0);
-    case(t, b"multipolygon", answered, too_new(472, 2016))
+fn constant(year: u32) -> Setting {
+    match year {
+        years::Y1999 => Setting::Y1999,
+        years::Y2004 => Setting::Y2004,
+        years::Y2006 => Setting::Y2006,
+        years::Y2008 => Setting::Y2008,
+        years::Y2012 => Setting::Y2012,
+        years::Y2014 => Setting::Y2014,
+        years::Y2015 => Setting::Y2015,
+        years::Y2016 => Setting::Y2016,
+        _ => Setting::Y2017,
+    }
 }
 
-// Lengths of date, designation, title and second designation, with the scale 10000 after the designation.
-fn heads(t: Tally) -> Tally {
-    let at = Setting::Y1999;
-    let stated = answer_of(HEAD, &[0, 1, 0, 0, 1]);
-    let t = case(t, b"E, head", head_of(e(), at), stated);
-    let s = put_all(e(), 16, b"20170101");
-    let s = put_all(s, 28, b"AAAAAAAAAAAAAAAAAAAAAAAAAAAAAAA");
-    let s = put_all(s, 60, b"\x10\x27\0\0North");
-    let s = put_all(s, 408, b"AB");
-    let stated = answer_of(HEAD, &[8, 31, 10000, 5, 2]);
-    let t = case(t, b"texts of a head", head_of(s, at), stated);
-    let s = put(e(), 96, 2);
-    case(t, b"head refused", head_of(s, at), refused(7, 96))
+fn year_of(setting: Setting) {
+    print::number(setting.year() as u64);
 }
 
-fn unit(which: u64, byte: u64) -> Answer {
-    answer_of(UNIT, &[which, byte])
+fn byte(n: u64) -> u8 {
+    (n % 0x100) as u8
 }
 
-// The answer for a sheet with such a byte at +236.
-fn unit_by(s: Sheet, byte: u8) -> Answer {
-    unit_of(put(s, 236, byte), Setting::Y2017)
+fn word(n: u64) -> u32 {
+    (n % 0x100000000) as u32
 }
 
-// "Real when bits 3-4 of +96 are 3, or +312 is negative, or +98 is not 0."
-fn units(t: Tally) -> Tally {
-    let t = case(t, b"E, unit", unit_by(e(), 0), unit(DEVICE_POINTS, 0));
-    let t = case(t, b"not real", unit_by(e(), 65), unit(DEVICE_POINTS, 0));
-    let s = put(e(), 96, 3 + 24);
-    let t = case(t, b"metres", unit_by(s, 0), unit(METRES, 0));
-    let t = case(t, b"radians", unit_by(s, 64), unit(RADIANS, 0));
-    let t = case(t, b"degrees", unit_by(s, 65), unit(DEGREES, 0));
-    let t = case(t, b"unknown", unit_by(s, 66), unit(UNKNOWN, 66));
-    let s = put(e(), 315, 0x80);
-    let t = case(t, b"+312 negative", unit_by(s, 64), unit(RADIANS, 0));
-    let s = put(e(), 315, 0x7F);
-    let t = case(t, b"+312 positive", unit_by(s, 64), unit(DEVICE_POINTS, 0));
-    let s = put(e(), 98, 1);
-    let t = case(t, b"accuracy", unit_by(s, 65), unit(DEGREES, 0));
-    let s = put(e(), 97, 3);
-    case(t, b"unit refused", unit_by(s, 65), refused(7, 97))
+fn on_numbers(form: &Form, call: u64) {
+    match call {
+        names::CONSTANT => year_of(constant(word(form[513]))),
+        names::VISIBILITY => values::visibility(form[513], form[514]),
+        names::VALUE => values::value(form[513], form[514], form[515]),
+        _ => {
+            let u = unit_of(
+                byte(form[513]),
+                word(form[514]),
+                byte(form[515]),
+                byte(form[516]),
+            );
+            if call == names::UNITS {
+                reader::unit(u);
+            } else {
+                values::coordinate_by(u, form[517], form[518]);
+            }
+        }
+    }
 }
 
-// The first is 1.0, at +104, the last -2.0, at +160. A double that is no number (a NaN) keeps its bits, and so do then all.
-fn corners(t: Tally) -> Tally {
-    let at = Setting::Y1999;
-    let s = put_all(e(), 110, b"\xF0\x3F");
-    let s = put(s, 167, 0xC0);
-    let first = 0x3FF0000000000000;
-    let last = 0xC000000000000000;
-    let stated = answer_of(DOUBLES, &[first, 0, 0, 0, 0, 0, 0, last]);
-    let t = case(t, b"corners", corners_of(s, at), stated);
-    let s = put_all(s, 126, b"\xF8\x7F");
-    let none = 0x7FF8000000000000;
-    let stated = answer_of(BITS, &[120, first, 0, none, 0, 0, 0, 0, last]);
-    let t = case(t, b"NaN corner", corners_of(s, at), stated);
-    let s = put_all(e(), 158, b"\xF0\x7F");
-    let infinite = 0x7FF0000000000000;
-    let stated = answer_of(DOUBLES, &[0, 0, 0, 0, 0, 0, infinite, 0]);
-    let t = case(t, b"infinite corner", corners_of(s, at), stated);
-    let s = put(e(), 99, 1);
-    case(t, b"corners refused", corners_of(s, at), too_new(99, 2008))
+// As much memory as the line says, but no more than there is.
+fn room(n: u64, most: usize) -> usize
+    ensures { λ r. ⌜ r ≤ most ⌝ }
+{
+    if n < most as u64 { n as usize } else { most }
 }
 
-pub fn cases(t: Tally) -> Tally {
-    corners(units(heads(no_record(records(t)))))
+fn on_sheet(form: &Form, bytes: &Bytes, call: u64, setting: Setting) {
+    let s = lists::part(form, bytes, lists::SHEET);
+    match call {
+        names::CHECK => reader::check(s, setting),
+        names::UNFOLD => reader::unfold(
+            s,
+            setting,
+            room(form[514], 64),
+            room(form[515], 64),
+            room(form[516], 64),
+        ),
+        names::RECORD => reader::record_at(s, setting, form[514]),
+        names::HEAD => reader::head_of(s, setting),
+        names::UNIT => reader::unit_of(s, setting),
+        names::CORNERS => reader::corners_of(s, setting),
+        names::WRITE => writer::write(form, bytes, setting, room(form[514], 1024)),
+        _ => year_of(setting),
+    }
+}
+
+fn at_year(form: &Form, call: u64, year: u32) {
+    match Setting::new(year) {
+        Made::At(setting) => on_sheet(form, &lists::bytes_of(form), call, setting),
+        Made::Refused(r) => print::refused(r),
+    }
+}
+
+pub fn run(form: &Form) {
+    let call = form[lists::CALL];
+    if form[lists::WRONG] == 0 && form[lists::ASK] == asked(call) {
+        if call < names::CONSTANT {
+            at_year(form, call, word(form[513]));
+        } else {
+            on_numbers(form, call);
+        }
+    } else {
+        print::word(b" BAD LINE");
+    }
 }

@@ -1,50 +1,78 @@
-// Runs cases of document 01 and compares what the reader's public calls answer with what is stated here. A stated answer was worked
-// out by hand from document 01 (and from 000 where 01 points there), and never taken from a run.
-//
-// Relied on: the public calls of `reading`, which are what is tried; the types of the answers (`layout`); the kit's `io` for output.
-// The sheets are made here, byte by byte, with a sum that is counted here (`sheets`), so that no code of the reader has a part in
-// them.
-//
-// Promised: it is safe and it ends. Each case that disagrees prints a FAILED line with its name, the answer and the stated answer;
-// each group prints how many of its cases agree. The gate compares all of it with the file `stdout` beside this.
-//
-// Not tried here: TOO LONG, and a sheet accepted with the mark 65535. Both take more than the 65,536 bytes that a program's buffers
-// may have. TABLE and the other refusals of writing belong to the writer.
-//
-// To add a case: a row in a table of `rows`, or a `case` with a name. The counts in `stdout` grow with it.
-mod answers;
+// Runs cases with stated answers: each line of the standard input is a case, and what it answers is printed behind its name. The cases stand in
+// the file `stdin` of this crate, which says at its top how a line is written, and the stated answers in `stdout`. A new case is a line in each.
 mod calls;
-mod descriptor;
-mod items;
-mod meanings;
-mod order;
-mod parts;
-mod passport;
-mod questions;
-mod records;
-mod rows;
-mod settings;
-mod sheets;
-mod tally;
-mod unfolding;
-mod years;
+mod lists;
+mod names;
+mod print;
+mod reader;
+mod text;
+mod values;
+mod words;
+mod writer;
 
-use tally::group;
-use tally::none;
-use tally::tell;
+ghost use Prim.Native.Nat.{_<_};
+use lists::Form;
+use text::Text;
+use text::byte_at;
+use text::definition;
+use text::find;
+use words::words;
+
+// The words of a sheet, and before them those of the sheet that it is made of, whose letter stands after the =, and of that one's. A letter
+// that no line defines is wrong; - stands for no sheet.
+fn define(form: &mut Form, text: &Text, letter: u8) {
+    let third = definition(text, letter);
+    let second = definition(text, byte_at(text, third + 1));
+    let first = definition(text, byte_at(text, second + 1));
+    words(form, text, first);
+    words(form, text, second);
+    words(form, text, third);
+    if letter != b'-' && 65536 <= third {
+        form[lists::WRONG] = 1;
+    }
+}
+
+fn print_name(text: &[u8], at: usize, end: usize) {
+    if at < end {
+        if end <= text.len() {
+            print::word(&text[at..end]);
+        }
+    }
+    print::word(b":");
+}
+
+fn case(text: &Text, at: usize)
+    requires { ⌜ at < 65536 ⌝ }
+{
+    let end = find(text, at + 2, b' ');
+    print_name(text, at + 2, end);
+    let mut form = [0u64; 8192];
+    define(&mut form, text, byte_at(text, at));
+    words(&mut form, text, end);
+    lists::put_sum(&mut form);
+    calls::run(&form);
+    print::word(b"\n");
+}
+
+// A case begins with the letter of its sheet, or -, and a blank.
+fn lines(text: &Text) {
+    let mut before = b'\n';
+    let mut i = 0;
+    while i < 65536 {
+        let b = text[i];
+        if before == b'\n' && b != b'#' && byte_at(text, i + 1) == b' ' {
+            case(text, i);
+        }
+        before = b;
+        i += 1;
+    }
+}
 
 fn main() {
-    let all = none();
-    let all = group(all, b"settings", settings::cases(none()));
-    let all = group(all, b"passport", passport::cases(none()));
-    let all = group(all, b"descriptor", descriptor::cases(none()));
-    let all = group(all, b"records", records::cases(none()));
-    let all = group(all, b"parts", parts::cases(none()));
-    let all = group(all, b"items", items::cases(none()));
-    let all = group(all, b"years", years::cases(none()));
-    let all = group(all, b"order", order::cases(none()));
-    let all = group(all, b"unfolding", unfolding::cases(none()));
-    let all = group(all, b"calls", calls::cases(none()));
-    let all = group(all, b"meanings", meanings::cases(none()));
-    tell(b"all", all);
+    let mut text = io::large_buffer();
+    let n = io::read_full(0, &mut text);
+    lines(&text);
+    if n == 65536 {
+        print::word(b"TOO LONG\n");
+    }
 }
