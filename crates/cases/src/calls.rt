@@ -6,6 +6,7 @@ use crate::lists::Form;
 use crate::names;
 use crate::print;
 use crate::reader;
+use crate::text::NONE;
 use crate::values;
 use crate::writer;
 use layout::years;
@@ -13,14 +14,16 @@ use reading::setting::Made;
 use reading::setting::Setting;
 use reading::units::unit_of;
 
-// How many numbers a call is asked with. They stand from 513 on.
+// How many numbers a call is asked with. They stand from 513 on. What is no call is asked with no count of numbers.
 fn asked(call: u64) -> u64 {
     match call {
         names::COORDINATE => 6,
         names::UNFOLD | names::UNITS => 4,
         names::VALUE => 3,
         names::RECORD | names::WRITE | names::VISIBILITY => 2,
-        _ => 1,
+        names::CHECK | names::HEAD | names::UNIT | names::CORNERS => 1,
+        names::SETTING | names::CONSTANT => 1,
+        _ => NONE,
     }
 }
 

@@ -29,13 +29,17 @@ fn marked(form: &mut Form, at: usize, mark: u8, n: u64) -> usize {
     wrong(form, at)
 }
 
+// A list is named, or the call: a line has one.
 fn named(form: &mut Form, at: usize, name: u64) -> usize {
     match name {
         0 => wrong(form, at),
         1..=names::SHEET => name as usize * 512 + 1,
         _ => {
-            form[lists::CALL] = name;
-            at
+            if form[lists::CALL] == 0 {
+                form[lists::CALL] = name;
+                return at;
+            }
+            wrong(form, at)
         }
     }
 }
