@@ -53,7 +53,7 @@ SEMANTIC = 12
 abbrev pub LEFT-OVER : ℕ
 LEFT-OVER = 13
 
--- a record table that is none
+-- the numbers given are not a record table
 abbrev pub TABLE : ℕ
 TABLE = 14
 
