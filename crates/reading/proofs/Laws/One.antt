@@ -13,6 +13,7 @@ use Rattle.reading_check.specs.declared.tally.Tally.{Tally}
 use Rattle.layout.specs.Answers.Calls.{Placed, andThen, recordOf}
 use Rattle.layout.specs.Answers.Enums.{refusal, recordAt, foundOf}
 use Rattle.layout.specs.Bytes.{Bytes, flat}
+use Rattle.layout.specs.Fields.{limit}
 use Rattle.layout.specs.Layout.Encode.{encodeRecord}
 use Rattle.layout.specs.Layout.Fine.{FineRecord}
 use Rattle.layout.specs.Layout.Uses.{recordYears}
@@ -98,7 +99,7 @@ module _ (year : ℕ) (s : List ℕ) (number count : ℕ) (a : AcceptedAt s year
     pub place-within : (at : ℕ) → at ≡ placeIn number start s → at ≤ length s
     place-within at p = omega (arith, p, room)
 
-    pub rest-within : (at : ℕ) → at ≡ placeIn number start s → (xs : List ℕ) → xs ≡ drop at s → (at + length xs ≤ 16777216) × (32 ≤ length xs)
+    pub rest-within : (at : ℕ) → at ≡ placeIn number start s → (xs : List ℕ) → xs ≡ drop at s → (at + length xs ≤ limit) × (32 ≤ length xs)
     rest-within at p xs x =
         let n : length xs ≡ length s - at = ap length x ∙ length-drop at s in
         (omega (arith, n, p, room, known .short), omega (arith, n, p, room))
