@@ -9,6 +9,7 @@ ghost use Rattle.layout.specs.Fields.Header;
 ghost use Rattle.layout.specs.Reading.Hops.{placeIn};
 ghost use Rattle.layout.specs.Reading.Records.{headerIn};
 ghost use Rattle.layout.specs.Reading.Sheets.{start, sheetWalk};
+ghost use Rattle.layout.specs.Shared.Row.{partWidth, itemWidth, rowSize};
 ghost use Rattle.layout.specs.Walk.{answer, upTo};
 ghost use Rattle.reading.specs.Found.{AcceptedAt, Hops, recordBy};
 use crate::sheets::check_by_year;
@@ -43,7 +44,7 @@ fn place_of(s: &[u8], number: u64) -> usize
 
 // How many items a record has, by its count of numbers: eight, two for each part, four for each item.
 fn items_of(numbers: usize, subobjects: u16) -> usize
-    ensures { λ r. ⌜ r ≡ (numbers - (10 + 2 * subobjects)) / 4 ⌝ }
+    ensures { λ r. ⌜ r ≡ (numbers - (rowSize 1 0 + partWidth * subobjects)) / itemWidth ⌝ }
 {
     let others = row::WITH_FIRST + row::PART_WIDTH * (subobjects as usize);
     if numbers < others {

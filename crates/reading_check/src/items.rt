@@ -8,6 +8,7 @@ ghost use Rattle.reading_check.specs.Tally.{shown, tally, tallyOf, Withi
 ghost use Rattle.fields.specs.Steps.{Next};
 ghost use Rattle.fields.specs.declared.steps.Step.the-variants.{Fine};
 ghost use Rattle.layout.specs.Bytes.{number};
+ghost use Rattle.layout.specs.Fields.Item;
 ghost use Rattle.layout.specs.Reading.Items.{itemWalk, valueSize};
 ghost use Rattle.layout.specs.Shared.Types.{kindOf};
 ghost use Rattle.layout.specs.Walk.{fill};
@@ -41,7 +42,7 @@ pub struct Shape {
 
 // The shape of a known type other than 128: its value starts after the head.
 fn plain(good_scale: bool, size: usize, closing: usize) -> Shape
-    ensures { λ r. ⌜ r ≡ record { known = true; long = false; «good_scale» = «good_scale»; at = 4; size = size; closing = closing } ⌝ }
+    ensures { λ r. ⌜ r ≡ record { known = true; long = false; «good_scale» = «good_scale»; at = Item.size; size = size; closing = closing } ⌝ }
 {
     Shape {
         known: true,
@@ -54,7 +55,7 @@ fn plain(good_scale: bool, size: usize, closing: usize) -> Shape
 }
 
 fn shape_of(t: u8, scale: u8) -> Shape
-    ensures { λ r. ⌜ (r ≡ shapeOf (kindOf t) scale) × (4 ≤ r .at) × (r .at ≤ 8) × (r .size ≤ 512) × (r .closing ≤ 2) ⌝ }
+    ensures { λ r. ⌜ (r ≡ shapeOf (kindOf t) scale) × (Item.size ≤ r .at) × (r .at ≤ Item.size + Item.longLength .width) × (r .size ≤ 512) × (r .closing ≤ 2) ⌝ }
 {
     let n = scale as usize + 1;
     if (t == 0) | (t == 126) {

@@ -16,7 +16,7 @@ use layout::sheet;
 
 // "+0 identifier 0x7FFF7FFF; +4 total length; +8 metric length"
 fn put_lengths(out: &mut [u8], w: usize, metric: usize, semantics: usize)
-    requires { ⌜ (w + 12 ≤ length (now out)) × (Header.size + metric + semantics < 2 ^ 32) ⌝ }
+    requires { ⌜ (w + Header.code .place ≤ length (now out)) × (Header.size + metric + semantics < 2 ^ 32) ⌝ }
     ensures { λ _. ⌜ now (out .exit) ≡ sets (now (out .entry)) w (lengthsOf metric semantics) ⌝ }
 {
     numbers::put_u32(out, w, header::IDENTIFIER_IS);
@@ -70,7 +70,7 @@ fn points_of(count: u64) -> u16
 
 // "+28 subobjects; +30 points"
 fn put_counts(table: &[u64], at: usize, out: &mut [u8], w: usize)
-    requires { ⌜ (at + 9 ≤ length (now table)) × RowFits (drop at (now table)) × (w + 4 ≤ length (now out)) ⌝ }
+    requires { ⌜ (at + (rowWidth + 1) ≤ length (now table)) × RowFits (drop at (now table)) × (w + 4 ≤ length (now out)) ⌝ }
     ensures { λ _. ⌜ now (out .exit) ≡ sets (now (out .entry)) w (countsOf (drop at (now (table .entry)))) ⌝ }
 {
     numbers::put_u16(out, w, (table[at + row::PARTS] - 1) as u16);
@@ -90,7 +90,7 @@ pub fn put_header(
     out: &mut [u8],
     w: usize,
 )
-    requires { ⌜ (at + 9 ≤ length (now table)) × RowFits (drop at (now table)) × (w + Header.size ≤ length (now out))
+    requires { ⌜ (at + (rowWidth + 1) ≤ length (now table)) × RowFits (drop at (now table)) × (w + Header.size ≤ length (now out))
         × (Header.size + metric + semantics < 2 ^ 32) ⌝ }
     ensures { λ _. ⌜ now (out .exit) ≡ sets (now (out .entry)) w (headerOf (drop at (now (table .entry))) metric semantics) ⌝ }
 {
