@@ -55,7 +55,8 @@ fn plain(good_scale: bool, size: usize, closing: usize) -> Shape
 }
 
 fn shape_of(t: u8, scale: u8) -> Shape
-    ensures { λ r. ⌜ (r ≡ shapeOf (kindOf t) scale) × (Item.size ≤ r .at) × (r .at ≤ Item.size + Item.longLength .width) × (r .size ≤ 512) × (r .closing ≤ 2) ⌝ }
+    ensures { λ r. ⌜ (r ≡ shapeOf (kindOf t) scale) × (Item.size ≤ r .at) × (r .at ≤ Item.size + Item.longLength .width)
+        × (r .size ≤ 512) × (r .closing ≤ 2) ⌝ }
 {
     let n = scale as usize + 1;
     if (t == 0) | (t == 126) {
