@@ -8,19 +8,22 @@ use Prim.Native.Nat.{ℕ, _≤_}
 use borrow.Author.Tests.{le-leb}
 use lib.ListN.{length}
 use native.Mathlib.Omega.{arith}
-use Rattle.layout.specs.Answers.Calls.{andThen, reading, Rooms, inRooms, unfolded, written}
+use Rattle.layout.specs.Answers.Calls.{andThen, reading, Rooms, inRooms, unfolded, inRoom, written}
 use Rattle.layout.specs.Bytes.{All, Bytes}
 use Rattle.layout.specs.Fields.Descriptor
 use Rattle.layout.specs.Fields.Passport
+use Rattle.layout.specs.Layout.Encode.{encode}
 use Rattle.layout.specs.Layout.Fine.{FineHead}
 use Rattle.layout.specs.Layout.Uses.{years}
 use Rattle.layout.specs.Refusals.{TEXT}
+use Rattle.layout.specs.Shared.Carried.{restChecks}
 use Rattle.layout.specs.Shared.Texts.{isText}
 use Rattle.layout.specs.Sheet.{Head, Sheet, Table}
-use Rattle.layout.specs.Walk.{given, refused}
+use Rattle.layout.specs.Walk.{given, refused, answer, upTo, checks}
 use Rattle.layout.specs.Writing.Sheets.{titleRules, headWalk, tableWalk}
 use Rattle.layout.specs.Writing.Tables.{flatten}
 use Rattle.layout.specs.Years.{isSetting}
+use Rattle.laws.proofs.Base.Walks.{bind-on, bind-refused}
 use Rattle.laws.proofs.Called.{WasRead, reading-sound, reading-complete, Wrote, written-sound, written-complete}
 use Rattle.laws.proofs.Encoding.Plain.{pool-bytes}
 use Rattle.laws.proofs.Writing.Sheets.{Typed, fine-typed, text-on}
@@ -91,16 +94,34 @@ never-cut year h t room s typed bs e =
 
 -- but refused as TEXT, at its place.
 pub date-refused : (year : ℕ) (h : Head) (t : Table) (room : ℕ) → isSetting year ≡ true → isText Passport.date (h .date) ≡ false
-    → written year h t room ≡ refused TEXT 16 0
+    → written year h t room ≡ refused TEXT (Passport.date .place) 0
 unfolding written tableWalk headWalk titleRules
 date-refused year h t room ok date = rw (ok, date)
 
 pub designation-refused : (year : ℕ) (h : Head) (t : Table) (room : ℕ) → isSetting year ≡ true → isText Passport.date (h .date) ≡ true
-    → isText Passport.designation (h .designation) ≡ false → written year h t room ≡ refused TEXT 28 0
+    → isText Passport.designation (h .designation) ≡ false → written year h t room ≡ refused TEXT (Passport.designation .place) 0
 unfolding written tableWalk headWalk titleRules
 designation-refused year h t room ok date designation = rw (ok, date, designation)
 
 pub title-refused : (year : ℕ) (h : Head) (t : Table) (room : ℕ) → isSetting year ≡ true → isText Passport.date (h .date) ≡ true
-    → isText Passport.designation (h .designation) ≡ true → isText Passport.title (h .title) ≡ false → written year h t room ≡ refused TEXT 64 0
+    → isText Passport.designation (h .designation) ≡ true → isText Passport.title (h .title) ≡ false
+    → written year h t room ≡ refused TEXT (Passport.title .place) 0
 unfolding written tableWalk headWalk titleRules
 title-refused year h t room ok date designation title = rw (ok, date, designation, title)
+
+-- Between the title and the second designation stand the 304 carried bytes: their own checks come first, so here they are given.
+second-stops : (year : ℕ) (h : Head) → isText Passport.date (h .date) ≡ true → isText Passport.designation (h .designation) ≡ true
+    → isText Passport.title (h .title) ≡ true → answer (upTo year) (checks 0 (restChecks (h .rest))) ≡ given tt
+    → isText Descriptor.designation (h .designation2) ≡ false → answer (upTo year) (headWalk h) ≡ refused TEXT (Descriptor.designation .place) 0
+unfolding headWalk titleRules
+second-stops year h date designation title rest designation2 =
+    rw (date, designation, title) (bind-on (upTo year) (checks 0 (restChecks (h .rest))) _ tt rest ∙ rw designation2)
+
+pub designation2-refused : (year : ℕ) (h : Head) (t : Table) (room : ℕ) → isSetting year ≡ true → isText Passport.date (h .date) ≡ true
+    → isText Passport.designation (h .designation) ≡ true → isText Passport.title (h .title) ≡ true
+    → answer (upTo year) (checks 0 (restChecks (h .rest))) ≡ given tt → isText Descriptor.designation (h .designation2) ≡ false
+    → written year h t room ≡ refused TEXT (Descriptor.designation .place) 0
+unfolding written tableWalk
+designation2-refused year h t room ok date designation title rest designation2 =
+    let stops = second-stops year h date designation title rest designation2 in
+    rw ok (ap (λ a. andThen a (λ u. inRoom room (encode u))) (bind-refused (upTo year) (headWalk h) _ stops))

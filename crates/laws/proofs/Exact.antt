@@ -4,23 +4,46 @@ use mathlib.Core.List.{List}
 use mathlib.Core.Logic.{_↔_}
 use mathlib.Core.Path.{_≡_, sym, _∙_}
 use Prim.Native.Nat.{ℕ}
+use Rattle.layout.specs.Answers.Calls.{reading}
 use Rattle.layout.specs.Bytes.{Bytes}
 use Rattle.layout.specs.Layout.Encode.{encode}
 use Rattle.layout.specs.Layout.Fine.{Fine}
 use Rattle.layout.specs.Layout.Uses.{years}
 use Rattle.layout.specs.Reading.Sheets.{sheetWalk}
 use Rattle.layout.specs.Sheet.{Head, Sheet, Table}
-use Rattle.layout.specs.Walk.{outcome, ends, always}
+use Rattle.layout.specs.Walk.{outcome, ends, given, always}
 use Rattle.layout.specs.Writing.Sheets.{tableWalk}
 use Rattle.layout.specs.Writing.Tables.{flatten}
 use Rattle.laws.proofs.Base.Readers.{law-exact, law-read, law-once}
 use Rattle.laws.proofs.Base.Walks.{allowed-always, outcome-is}
 use Rattle.laws.proofs.Reading.Sheets.{sheet-law}
 use Rattle.laws.proofs.Writing.Sheets.{Typed, table-at}
+use Rattle.laws.proofs.Years.Own.{own-newest}
+use Rattle.laws.proofs.Years.Reading.{own-sheet}
 
 -- For every list of bytes s and every sheet t: the 2017 walk of s ends in t exactly when t is fine and is written so.
 pub exact : (s : List ℕ) → Bytes s → (t : Sheet) → (outcome (sheetWalk s) ≡ ends t) ↔ (Fine t × (encode t ≡ s))
 exact = law-exact sheetWalk encode Fine years sheet-law
+
+-- The same of the 2017 reader as it is called: it gives t exactly when t is fine and is written so.
+pub exact-reading : (s : List ℕ) → Bytes s → (t : Sheet) → (reading 2017 s ≡ given t) ↔ (Fine t × (encode t ≡ s))
+unfolding reading
+exact-reading s bs t =
+    let all = own-newest (sheetWalk s) (own-sheet s) in
+    let same = outcome-is (sheetWalk s) t in
+    let e = exact s bs t in
+    (λ g. e .0 (same .1 (sym all ∙ g)), λ f. all ∙ same .0 (e .1 f))
+
+-- s keeps the layout: it is some fine sheet, written so
+abbrev pub Keeps : List ℕ → Type 0
+Keeps s = (t : Sheet) × Fine t × (encode t ≡ s)
+
+-- The 2017 reader gives some sheet exactly when s keeps the layout.
+pub exact-accepted : (s : List ℕ) → Bytes s → ((t : Sheet) × (reading 2017 s ≡ given t)) ↔ Keeps s
+exact-accepted s bs = (
+  λ g. let f = exact-reading s bs (g .0) .0 (g .1) in (g .0, f .0, f .1),
+  λ f. (f .0, exact-reading s bs (f .0) .1 (f .1, f .2)),
+)
 
 -- Reading the encoding of a fine sheet gives that sheet.
 pub read-encoded : (t : Sheet) → Fine t → outcome (sheetWalk (encode t)) ≡ ends t

@@ -2,13 +2,13 @@
 use mathlib.Core.Bool.{true, false}
 use mathlib.Core.List.{List, [], _∷_, _++_}
 use mathlib.Core.Path.{_≡_, refl, ap, ap₂, _∙_}
-use Prim.Native.Nat.{ℕ, zero, suc, _-_, _<_}
+use Prim.Native.Nat.{ℕ, zero, suc, _+_, _-_, _<_, _≤_}
 use borrow.Author.Tests.{ltb-true, lt-ltb, eqb-true}
 use lib.Dec.{ltb, eqb}
-use lib.ListN.{length, drop, replicate, length-append, length-drop, length-replicate}
+use lib.ListN.{length, take, drop, replicate, take-append-drop, length-append, length-drop, length-replicate}
 use lib.Seq.{drop-append-seam}
 use native.Mathlib.Omega.{arith}
-use Rattle.layout.specs.Bytes.{All, Bytes, Field, zeros}
+use Rattle.layout.specs.Bytes.{All, Bytes, Field, bytesIn, zeros}
 use Rattle.layout.specs.Shared.Texts.{textOf, isTextField, padded, FineText}
 use Rattle.laws.proofs.Base.Lists.{all-append, both-true, cond-both}
 
@@ -16,6 +16,29 @@ text-split : (xs : List ℕ) → textOf xs ++ drop (length (textOf xs)) xs ≡ x
 text-split [] = refl
 text-split (x ∷ xs) =
     cond-both (λ t. t ++ drop (length t) (x ∷ xs) ≡ x ∷ xs) (eqb x 0) [] (x ∷ textOf xs) (λ e. refl) (λ e. ap (λ z. x ∷ z) (text-split xs))
+
+text-taken : (n : ℕ) (xs : List ℕ) → take (length (textOf (take n xs))) xs ≡ textOf (take n xs)
+text-taken zero xs = refl
+text-taken (suc n) [] = refl
+text-taken (suc n) (x ∷ xs) =
+    cond-both (λ t. take (length t) (x ∷ xs) ≡ t) (eqb x 0) [] (x ∷ textOf (take n xs)) (λ e. refl) (λ e. ap (λ z. x ∷ z) (text-taken n xs))
+
+-- a text stands at the start of its field, so its length gives it back from there,
+pub text-at : (f : Field) (s : List ℕ) → take (length (textOf (bytesIn f s))) (drop (f .place) s) ≡ textOf (bytesIn f s)
+text-at f s = text-taken (f .width) (drop (f .place) s)
+
+-- and it ends within the bytes that the field stands in
+pub text-within : (f : Field) (s : List ℕ) → f .place ≤ length s → f .place + length (textOf (bytesIn f s)) ≤ length s
+text-within f s within =
+    let xs = drop (f .place) s in
+    let k = length (textOf (bytesIn f s)) in
+    omega (
+      arith,
+      ap length (text-at f s),
+      ap length (take-append-drop k xs),
+      length-append (take k xs) (drop k xs),
+      length-drop (f .place) s,
+    )
 
 text-nonzero : (xs : List ℕ) → All (λ x. eqb x 0 ≡ false) (textOf xs)
 text-nonzero [] = tt
