@@ -1,0 +1,2 @@
+-- Only for the contracts of private functions, and for the theorems of proofs/.
+pub mod Hands
