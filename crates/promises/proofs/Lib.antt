@@ -7,3 +7,4 @@ pub mod Again
 pub mod Later
 pub mod Heads
 pub mod Rooms
+pub mod Trips

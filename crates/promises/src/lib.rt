@@ -1,4 +1,14 @@
-// What the reader's and the writer's contracts promise together; nothing here runs.
+// What the reader's and the writer's contracts promise together; no program runs any of it.
 //
-// Relied on: the contracts of `reading` and `writing` as the check reads them, and the laws of `laws`. Promised (proofs/Again): what the
-// writer's contract says was written is what the reader's contracts say is read, and the other way round, at one setting and at later ones.
+// Relied on: the contracts of `reading` and `writing` as the check reads them, the laws of `laws`, and what `fields` says of parts and copies.
+//
+// Promised, as theorems about those contracts (proofs/): the 2017 reader accepts exactly what keeps the layout and answers as it says
+// (Exact); what a setting changes, for every call (Years); both round trips, with the head as a caller has it in hand (Again, Heads); and
+// that what is written reads the same at every later setting (Later). Those of Exact, Again and Later ask that what stands for a lent slice
+// of bytes is bytes, since a contract is about lists of any numbers.
+//
+// Promised, as functions that ask nothing: what the types of lent slices say (`lent`), that acceptance is keeping the layout (`kept`), and
+// both round trips (`round`).
+pub mod kept;
+pub mod lent;
+pub mod round;
