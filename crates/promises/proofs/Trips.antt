@@ -4,16 +4,19 @@ use mathlib.Core.Bool.{true}
 use mathlib.Core.List.{List, _++_, append-nil}
 use mathlib.Core.Path.{_≡_, sym, ap, _∙_, subst}
 use Prim.Native.Nat.{ℕ, _+_, _≤_}
-use lib.ListN.{length, take, drop, length-drop}
+use lib.ListN.{length, take, drop, replicate, length-drop, length-replicate}
 use lib.Seq.{sets, sets-eq, drop-length, length-take-le}
 use native.Mathlib.Omega.{arith}
 use Rattle.layout.specs.Answers.Calls.{roomy, written, over}
 use Rattle.layout.specs.Answers.Enums.{sizesOf, checkedOf, headAt, writtenOf}
-use Rattle.layout.specs.Answers.Lent.{rooms}
+use Rattle.layout.specs.Answers.Lent.{headOf, rooms}
 use Rattle.layout.specs.Bytes.{Bytes, Field, after, bytesIn}
+use Rattle.layout.specs.Fields.Descriptor
+use Rattle.layout.specs.Fields.Passport
 use Rattle.layout.specs.Reading.Sheets.{headIn}
 use Rattle.layout.specs.Sheet.{Head, Sheet, Table}
 use Rattle.layout.specs.Walk.{given}
+use Rattle.layout.specs.Writing.Tables.{table}
 use Rattle.layout.specs.Years.{isSetting}
 use Rattle.layout.specs.declared.Checked.the-variants as Check
 use Rattle.layout.specs.declared.Checked.{Checked}
@@ -30,7 +33,7 @@ use Rattle.promises.proofs.Contracts.{Heads, Unfolds, Writes}
 use Rattle.promises.proofs.Heads.{head-within}
 use Rattle.promises.proofs.Later.{unfolds-at}
 use Rattle.promises.proofs.Rooms.{Fit}
-use Rattle.promises.specs.Hands.{headBy, HeadWithin, tableBy, TableWithin}
+use Rattle.promises.specs.Hands.{textBy, headBy, HeadWithin, tableBy, TableWithin}
 
 -- a refusal is no success
 unlike-written : (q : Refusal) (n : ℕ) → ¬ (Write.Refused q ≡ Write.Length n)
@@ -42,17 +45,33 @@ unlike-accepted q z e = let i : _≡_ {A = ℕ} 0 1 = cc in omega arith
 unlike-head : (q : Refusal) (a : HeadAt) → ¬ (Head-of.Refused q ≡ Head-of.Head a)
 unlike-head q a e = let i : _≡_ {A = ℕ} 0 1 = cc in omega arith
 
--- a call with parts of what is lent is one with the parts themselves
-pub writes-of : (y : ℕ) (h k : Head) (t u : Table) → h ≡ k → t ≡ u → (o out : List ℕ) (r : Written) → Writes y h t o out r → Writes y k u o out r
-writes-of y h k t u e g o out r w = subst (λ x. Writes y x u o out r) e (subst (λ x. Writes y h x o out r) g w)
-
--- a field of a sheet that is copied into an array of its width
-pub field-copied : (f : Field) (s l : List ℕ) → after f ≤ length s → length l ≡ f .width → sets l 0 (bytesIn f s) ≡ bytesIn f s
-field-copied f s l within long =
+-- `rest_of` and `carried_of`: a field of a sheet, copied into an array of its width that held zeros, is all of the array
+pub field-copied : (f : Field) (s : List ℕ) → after f ≤ length s → sets (replicate (f .width) 0) 0 (bytesIn f s) ≡ bytesIn f s
+field-copied f s within =
     let v = bytesIn f s in
+    let l : List ℕ = replicate (f .width) 0 in
     let n : length v ≡ f .width = length-take-le (f .width) (drop (f .place) s) (omega (arith, length-drop (f .place) s, within)) in
-    let all : 0 + length v ≡ length l = omega (arith, n, long) in
-    sets-eq v l 0 (omega (arith, all)) ∙ ap (λ (k : ℕ). v ++ drop k l) all ∙ ap (λ r. v ++ r) (drop-length l) ∙ append-nil v
+    let all : 0 + length v ≡ length l = omega (arith, n, length-replicate {A = ℕ} (f .width) 0) in
+    sets-eq v l 0 (omega (arith, all)) ∙ ap (λ (k : ℕ). v ++ drop k l) all ∙ ap (λ x. v ++ x) (drop-length l) ∙ append-nil v
+
+-- `write_read`: each part of the head and of the table is what a caller takes
+pub passed-on : (y : ℕ) (s : List ℕ) (a : HeadAt) (date designation title rest designation2 carried : List ℕ)
+    → date ≡ textBy Passport.date (a .date) s
+    → designation ≡ textBy Passport.designation (a .designation) s
+    → title ≡ textBy Passport.title (a .title) s
+    → rest ≡ bytesIn Passport.rest s
+    → designation2 ≡ textBy Descriptor.designation (a .designation2) s
+    → carried ≡ bytesIn Descriptor.carried s
+    → (z : Sizes) (t e b numbers elements bytes : List ℕ)
+    → numbers ≡ take (z .numbers) t → elements ≡ take (z .elements) e → bytes ≡ take (z .bytes) b
+    → (o out : List ℕ) (r : Written) → Writes y (headOf date designation (a .scale) title rest designation2 carried) (table numbers elements bytes) o out r
+    → Writes y (headBy s a) (tableBy z t e b) o out r
+passed-on y s a date designation title rest designation2 carried k₀ k₁ k₂ k₃ k₄ k₅ z t e b numbers elements bytes l₀ l₁ l₂ o out r w =
+    let head : headOf date designation (a .scale) title rest designation2 carried ≡ headBy s a =
+    λ i. headOf (k₀ i) (k₁ i) (a .scale) (k₂ i) (k₃ i) (k₄ i) (k₅ i) in
+    let taken : table numbers elements bytes ≡ tableBy z t e b = λ i. table (l₀ i) (l₁ i) (l₂ i) in
+    subst (λ x. Writes y x (tableBy z t e b) o out r) head
+    (subst (λ x. Writes y (headOf date designation (a .scale) title rest designation2 carried) x o out r) taken w)
 
 -- `read_back`: a call of `write`, and one of `unfold` with what it wrote, at that year or a later one
 module _ (y : ℕ) (h : Head) (t : Table) (o out : List ℕ) (v : Written) (w : Writes y h t o out v) where

@@ -4,15 +4,18 @@
 -- same slices. The features come from the sheet or the table alone (`met`); ROOM and a record number asked for come after them. One law
 -- (`told`) carries what the laws say of answers over to what the calls tell of them.
 use mathlib.Core.Bool.{true}
-use mathlib.Core.List.{List}
+use mathlib.Core.List.{List, [], _∷_}
 use mathlib.Core.Path.{_≡_, refl, sym, ap, _∙_}
-use Prim.Native.Nat.{ℕ, _≤_}
+use Prim.Native.Nat.{ℕ, _+_, _≤_}
+use lib.Ieee.{binary64, nanBits}
 use lib.ListN.{length}
 use native.Mathlib.Omega.{arith}
 use Rattle.layout.specs.Answers.Calls.{reading, roomy, Placed, asked, written, lent}
+use Rattle.layout.specs.Answers.Corners.{cornerBits, cornersFrom, cornersOf}
 use Rattle.layout.specs.Answers.Enums.{refusal, checkedOf, foundOf, headedOf, unitIn, cornersIn, writtenOf}
 use Rattle.layout.specs.Answers.Lent.{rooms, theNumbers, theElements, theBytes, theSheet}
 use Rattle.layout.specs.Bytes.{All}
+use Rattle.layout.specs.Fields.Passport
 use Rattle.layout.specs.Reading.Sheets.{sheetWalk}
 use Rattle.layout.specs.Refusals.{TOO-NEW}
 use Rattle.layout.specs.Sheet.{Head, Sheet, Table}
@@ -21,6 +24,7 @@ use Rattle.layout.specs.Writing.Sheets.{tableWalk}
 use Rattle.layout.specs.Years.{isSetting}
 use Rattle.layout.specs.declared.Checked.the-variants as Check
 use Rattle.layout.specs.declared.Checked.{Checked}
+use Rattle.layout.specs.declared.CornerBits.{CornerBits}
 use Rattle.layout.specs.declared.Corners.the-variants as Corner
 use Rattle.layout.specs.declared.Corners.{Corners}
 use Rattle.layout.specs.declared.Found.the-variants as Find
@@ -32,6 +36,7 @@ use Rattle.layout.specs.declared.UnitAnswer.the-variants as Unit-of
 use Rattle.layout.specs.declared.UnitAnswer.{UnitAnswer}
 use Rattle.layout.specs.declared.Written.the-variants as Write
 use Rattle.layout.specs.declared.Written.{Written}
+use Rattle.laws.proofs.Base.Lists.{cond-both}
 use Rattle.laws.proofs.Years as Law
 use Rattle.laws.proofs.Years.Walks.{FirstAt, first-late, none-late}
 use Rattle.promises.proofs.Contracts.{Checks, Heads, Units, Cornered, Finds, Unfolds, Writes}
@@ -134,6 +139,27 @@ unit-back (refused n p y) q e = cc
 
 pub unit-2017 : (s : List ℕ) (place year : ℕ) (q : UnitAnswer) → Units 2017 s q → ¬ (q ≡ Unit-of.Refused (tooNew place year))
 unit-2017 s place year q c e = Law.at-2017 s place year (unit-back (reading 2017 s) (tooNew place year) (sym e ∙ c))
+
+-- corners that are read are no refusal
+never-corners : (place : ℕ) (l : List ℕ) (c : CornerBits) (q : Refusal) → ¬ (Corner.Refused q ≡ cornersFrom place l c)
+never-corners place [] c q = λ e. let i : _≡_ {A = ℕ} 0 1 = cc in omega arith
+never-corners place (b ∷ l) c q =
+    cond-both (λ x. ¬ (Corner.Refused q ≡ x)) (nanBits binary64 b) (Corner.Bits place c) (cornersFrom (place + 8) l c)
+    (λ _ e. let i : _≡_ {A = ℕ} 0 1 = cc in omega arith) (λ _. never-corners (place + 8) l c q)
+
+never-plane : (c : CornerBits) (q : Refusal) → ¬ (Corner.Refused q ≡ cornersOf c)
+unfolding cornersOf
+never-plane c q =
+    never-corners (Passport.corners .place)
+    (c .«sw_x» ∷ c .«sw_y» ∷ c .«nw_x» ∷ c .«nw_y» ∷ c .«ne_x» ∷ c .«ne_y» ∷ c .«se_x» ∷ c .«se_y» ∷ []) c q
+
+corners-back : (a : Answer Sheet) (q : Refusal) → Corner.Refused q ≡ cornersIn a → a ≡ refused (q .number) (q .place) (q .year)
+unfolding cornersIn
+corners-back (given t) q e = absurd (never-plane (cornerBits (t .head .rest)) q e)
+corners-back (refused n p y) q e = cc
+
+pub corners-2017 : (s : List ℕ) (place year : ℕ) (q : Corners) → Cornered 2017 s q → ¬ (q ≡ Corner.Refused (tooNew place year))
+corners-2017 s place year q c e = Law.at-2017 s place year (corners-back (reading 2017 s) (tooNew place year) (sym e ∙ c))
 
 found-back : (a : Answer Placed) (q : Refusal) → Find.Refused q ≡ foundOf a → a ≡ refused (q .number) (q .place) (q .year)
 unfolding foundOf

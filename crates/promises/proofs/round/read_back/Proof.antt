@@ -2,6 +2,7 @@
 -- `unfold` the arms that answer false cannot be come to (Trips).
 use denote.Ref.{now}
 use mathlib.Core.Path.{refl}
+use native.Mathlib.Omega.{arith}
 use Rattle.layout.specs.Answers.Lent.{headOf}
 use Rattle.layout.specs.Sheet.{Head, Table}
 use Rattle.layout.specs.Writing.Tables.{table}
@@ -49,7 +50,7 @@ returns c =
     λ s e ok after i j k.
     let filled = back-filled (start .args .setting .year) (head-lent start) (table-lent start) (now (start .args .out)) _ _
     (after-write .write .ensures) _ (after-n .n .given .1) (to-bytes after-write .before .head .ensures) (to-bytes after-write .bytes .ensures) _
-    (to-part after-unfold .part .ensures) _ ok after (now (start .args .numbers)) (now (start .args .pool)) (now (start .args .texts))
+    (to-part after-unfold .part .ensures) _ ok (omega (arith, after)) (now (start .args .numbers)) (now (start .args .pool)) (now (start .args .texts))
     _ _ _ _ (after-unfold .«unfold» .ensures) (i, j, k) in
     (refl, filled .0, filled .1, filled .2)
 
@@ -62,7 +63,7 @@ returns-2 c =
     λ s e ok after i j k.
     absurd (never-refused (start .args .setting .year) (head-lent start) (table-lent start) (now (start .args .out)) _ _
     (after-write .write .ensures) _ (after-n .n .given .1) (to-bytes after-write .before .head .ensures) (to-bytes after-write .bytes .ensures) _
-    (to-part after-unfold .part .ensures) _ ok after (now (start .args .numbers)) (now (start .args .pool)) (now (start .args .texts))
+    (to-part after-unfold .part .ensures) _ ok (omega (arith, after)) (now (start .args .numbers)) (now (start .args .pool)) (now (start .args .texts))
     _ _ _ _ (after-unfold .«unfold» .ensures) (i, j, k) _
     (c .enum-told2 .given .1))
 

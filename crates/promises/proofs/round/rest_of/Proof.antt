@@ -1,8 +1,6 @@
 -- The array is the field of the sheet: it was filled from its start to its end (`field-copied`).
 use denote.Ref.{now}
-use Prim.Native.Nat.{ℕ}
 use mathlib.Core.Path.{_∙_}
-use lib.ListN.{replicate, length-replicate}
 use native.Mathlib.Omega.{arith}
 use Rattle.layout.specs.Fields.Passport
 use Rattle.promises.proofs.Trips.{field-copied}
@@ -13,8 +11,7 @@ use Rattle.promises.proofs.round.rest_of.Tie as tie
 returns : tie.Need-returns
 returns c =
     let start = c .before .before .before .before in
-    c .before .put-bytes .ensures ∙ field-copied Passport.rest (now (start .args .s)) (replicate (Passport.rest .width) 0) (omega (arith, start .pre))
-    (length-replicate {A = ℕ} (Passport.rest .width) 0)
+    c .before .put-bytes .ensures ∙ field-copied Passport.rest (now (start .args .s)) (omega (arith, start .pre))
 
 pub rest-of-spec : {M : Type 1} → statement M
 rest-of-spec = tie.close (tie.spec (λ c. search needs) (λ c κs. search needs) returns)
