@@ -2,14 +2,17 @@
 ghost use mathlib.Core.Bool.{true};
 ghost use mathlib.Core.Logic.{_↔_};
 ghost use mathlib.Core.Path.{_≡_};
-ghost use Rattle.laws.proofs.Exact.{Keeps};
+ghost use Rattle.layout.specs.Layout.Encode.{encode};
+ghost use Rattle.layout.specs.Layout.Fine.{Fine};
+ghost use Rattle.layout.specs.Sheet.{Sheet};
 use crate::lent;
 use layout::Checked;
 use meanings::setting::Setting;
 use reading::sheets::check;
 
+// True exactly where some fine sheet is written as these bytes.
 pub fn keeps_layout(s: &[u8]) -> bool
-    ensures { λ r. ⌜ (r ≡ true) ↔ Keeps (now (s .entry)) ⌝ }
+    ensures { λ r. ⌜ (r ≡ true) ↔ ((t : Sheet) × Fine t × (encode t ≡ now (s .entry))) ⌝ }
 {
     lent::bytes(s);
     match check(s, Setting::Y2017) {
