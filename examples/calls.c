@@ -1,11 +1,15 @@
 /*
  * Holds sxf.h to the library: each call, on sheets that are written here, and every field of its answer. A field out of its order, or
- * an argument out of its place, shows here. Exit status: 0 all are as stated, 1 one is not.
+ * an argument out of its place, shows here. It also prints some coordinates. Exit status: 0 all are as stated, 1 one is not.
  */
 #include <inttypes.h>
 #include <stdio.h>
 #include <string.h>
 #include "sxf.h"
+
+/* The bits of the double 1, and of a NaN. */
+#define ONE UINT64_C(0x3FF0000000000000)
+#define SIGNALLING UINT64_C(0x7FF0000000000001)
 
 static int answers, wrong;
 
@@ -114,7 +118,7 @@ static void heads(void)
     SAME(unknown, 0, 0, 0, SXF_UNKNOWN_UNIT, 7);
     sxf_corners nan = sxf_corners_of(sheet, LENGTH, 2017);
     SAME(nan, 0, 0, 0, 136, 1, 2, 3, 4, UINT64_C(0x7FF8000000000005), 6, 7, 8);
-    uint64_t one = sxf_double(UINT64_C(0x3FF0000000000000)) == 1.0;
+    uint64_t one = sxf_double(ONE) == 1.0;
     SAME(one, 1);
 }
 
@@ -125,11 +129,64 @@ static void meanings(void)
     SAME(table5, 1, 100, 100000);
     SAME(unset, 0, 0, 0);
     sxf_value metres = sxf_value_of(2, 0xFF, 0x04F9), below = sxf_value_of(4, 127, 0xFFFFFFFF), text = sxf_value_of(0, 1, 65);
-    sxf_value no_scale = sxf_value_of(1, 0x80, 0);
-    SAME(metres, 0, 0, 0, 1, 1273, (uint64_t)-1);
-    SAME(below, 0, 0, 0, 1, (uint64_t)-1, 127);
-    SAME(text, 0, 0, 0, 0, 0, 0);
-    SAME(no_scale, SXF_SEMANTIC, 3, 0, 0, 0, 0);
+    sxf_value wide = sxf_value_of(2, 0, UINT64_C(0x123456789ABC0001)), one = sxf_value_of(8, 0x80, ONE), nan = sxf_value_of(8, 0, SIGNALLING);
+    sxf_value no_scale = sxf_value_of(1, 0x80, 0), no_type = sxf_value_of(3, 0x80, 0);
+    SAME(metres, 0, 0, 0, SXF_DECIMAL, 0, 1273, (uint64_t)-1);
+    SAME(below, 0, 0, 0, SXF_DECIMAL, 0, (uint64_t)-1, 127);
+    SAME(wide, 0, 0, 0, SXF_DECIMAL, 0, 1, 0);
+    SAME(one, 0, 0, 0, SXF_DOUBLE, ONE, 0, 0);
+    SAME(nan, 0, 0, 0, SXF_NAN, SIGNALLING, 0, 0);
+    SAME(text, 0, 0, 0, SXF_NO_NUMBER, 0, 0, 0);
+    SAME(no_scale, SXF_SEMANTIC, 3, 0, 0, 0, 0, 0);
+    SAME(no_type, SXF_SEMANTIC, 2, 0, 0, 0, 0, 0);
+}
+
+/* An element and its unit, or why there is none. */
+static void print_coordinate(const char *what, sxf_coordinate c)
+{
+    static const char *const units[] = { "", "device points", "metres", "radians", "degrees", "unknown unit" };
+    printf("%s: ", what);
+    if (c.number != SXF_OK)
+        printf("refused, %" PRIu64 " at %" PRIu64 "\n", c.number, c.place);
+    else if (c.kind == SXF_NAN)
+        printf("NaN 0x%" PRIx64 ", %" PRIu64 " bytes, in %s\n", c.bits, c.width, units[c.unit]);
+    else
+        printf("%.17g, %" PRIu64 " bytes, in %s\n", sxf_double(c.bits), c.width, units[c.unit]);
+}
+
+static void coordinates(void)
+{
+    /* the reference bits of large elements, of three dimensions and of floating ones; and two sheets: in device points, and real, in metres */
+    enum { LARGE = 0x000400, SPACE = 0x020000, FLOATING = 0x040000 };
+    uint8_t still[304] = { 3 }, real[304] = { 0x1B };
+    sxf_coordinate small = sxf_coordinate_of(still, 0, SXF_NORTH, 65535), minus = sxf_coordinate_of(real, LARGE, SXF_EAST, 0xFFFFFFFF);
+    SAME(small, 0, 0, 0, SXF_DEVICE_POINTS, 0, 2, SXF_WHOLE, UINT64_C(0x40EFFFE000000000));
+    SAME(minus, 0, 0, 0, SXF_METRES, 0, 4, SXF_WHOLE, UINT64_C(0xBFF0000000000000));
+    /* heights are in metres by their own byte, also where the plane is in device points, and of unknown unit by any other */
+    sxf_coordinate height = sxf_coordinate_of(still, SPACE, SXF_HEIGHT, 0x42FF0000);
+    real[236 - 96] = 65;
+    real[237 - 96] = 9;
+    sxf_coordinate north = sxf_coordinate_of(real, LARGE | SPACE | FLOATING, SXF_NORTH, ONE);
+    sxf_coordinate unknown = sxf_coordinate_of(real, LARGE | SPACE | FLOATING, SXF_HEIGHT, ONE);
+    SAME(height, 0, 0, 0, SXF_METRES, 0, 4, SXF_SINGLE, UINT64_C(0x405FE00000000000));
+    SAME(north, 0, 0, 0, SXF_DEGREES, 0, 8, SXF_DOUBLE, ONE);
+    SAME(unknown, 0, 0, 0, SXF_UNKNOWN_UNIT, 9, 8, SXF_DOUBLE, ONE);
+    sxf_coordinate nan = sxf_coordinate_of(still, FLOATING, SXF_EAST, 0x7F800001);
+    SAME(nan, 0, 0, 0, SXF_DEVICE_POINTS, 0, 4, SXF_NAN, 0x7F800001);
+    sxf_coordinate flat = sxf_coordinate_of(still, 0, SXF_HEIGHT, 0), fourth = sxf_coordinate_of(still, SPACE, 3, 0);
+    sxf_coordinate too_wide = sxf_coordinate_of(still, 0, SXF_NORTH, 65536), four_bytes = sxf_coordinate_of(still, UINT32_C(1) << 24, SXF_NORTH, 0);
+    SAME(flat, SXF_ASK, 0, 0, 0, 0, 0, 0, 0);
+    SAME(fourth, SXF_ASK, 0, 0, 0, 0, 0, 0, 0);
+    SAME(too_wide, SXF_TABLE, 0, 0, 0, 0, 0, 0, 0);
+    SAME(four_bytes, SXF_TABLE, 3, 0, 0, 0, 0, 0, 0);
+    print_coordinate("a short 65535", small);
+    print_coordinate("a long of all ones", minus);
+    print_coordinate("a height", height);
+    print_coordinate("another sheet's north", north);
+    print_coordinate("its height", unknown);
+    print_coordinate("a NaN", nan);
+    print_coordinate("a height in two dimensions", flat);
+    print_coordinate("a short 65536", too_wide);
 }
 
 int main(void)
@@ -141,6 +198,7 @@ int main(void)
     records();
     heads();
     meanings();
+    coordinates();
     printf("calls: %d answers, %d not as stated\n", answers, wrong);
     return wrong != 0;
 }

@@ -115,19 +115,20 @@ static void print_item(const uint64_t item[4], const uint8_t *value)
 {
     uint8_t kind = (uint8_t)item[1], scale = (uint8_t)item[2];
     printf("  item %" PRIu64 " type %u: ", item[0], kind);
-    if (kind == 8) {
-        double d = sxf_double(number_of(value, 8));
-        if (d == d)
-            printf("%.17g\n", d);
-        else
-            printf("NaN\n");
-        return;
-    }
-    sxf_value v = sxf_value_of(kind, scale, kind == 1 || kind == 2 || kind == 4 ? (uint32_t)number_of(value, kind) : 0);
-    if (v.is_number)
+    sxf_value v = sxf_value_of(kind, scale, number_of(value, item[3] < 8 ? item[3] : 8));
+    switch (v.kind) {
+    case SXF_DECIMAL:
         printf("%" PRId64 "e%" PRId64 "\n", v.whole, v.power);
-    else
+        break;
+    case SXF_DOUBLE:
+        printf("%.17g\n", sxf_double(v.bits));
+        break;
+    case SXF_NAN:
+        printf("NaN\n");
+        break;
+    default:
         printf("%" PRIu64 " bytes\n", item[3]);
+    }
 }
 
 /* The table has a record's eight numbers, two for each part and four for each item. Where a record starts and how long it is, is not in

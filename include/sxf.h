@@ -3,7 +3,8 @@
  *
  * Answers. Each call takes every value of its arguments and answers one struct by value. number is 0 (SXF_OK) on success. Else it is
  * the number of the refusal, with its place and year, and every other field is 0. The place is a byte of the sheet, from 0, or for
- * sxf_write's table an index of the table; the year is 0 except for SXF_TOO_NEW. (sxf_visibility has no refusal.)
+ * sxf_write's table an index of the table; the year is 0 except for SXF_TOO_NEW. (sxf_visibility has no refusal; what the place of a
+ * refusal counts from where no sheet is lent is said beside the call.)
  *
  * Years. A sheet is read or written for a year, one of 1999, 2004, 2006, 2008, 2012, 2014, 2015, 2016 and 2017: what came later is
  * refused as SXF_TOO_NEW. Any other year is refused first of all, as SXF_ASK at place 0.
@@ -43,9 +44,9 @@ enum {
     SXF_COUNT = 11,       /* a count of points does not agree with the mark 65535 */
     SXF_SEMANTIC = 12,    /* an item's type, scale or length */
     SXF_LEFT_OVER = 13,   /* bytes after the last record */
-    SXF_TABLE = 14,       /* a record table that is no table of a sheet (sxf_write) */
+    SXF_TABLE = 14,       /* a record table that is no table of a sheet (sxf_write), or a reference or bits too large (sxf_coordinate_of) */
     SXF_ROOM = 15,        /* a lent output is too small; sxf_unfold: place 1 table, 2 elements, 3 bytes; sxf_write: place 0 */
-    SXF_ASK = 16          /* the year is none of the nine, or the record's number is not below the count; place 0 */
+    SXF_ASK = 16          /* the year is none of the nine, the record's number is not below the count, or a point has no such dimension; place 0 */
 };
 
 /* Places in a sheet. Each text starts at its place and has the length that sxf_head_of answers. The carried bytes are the rest of the
@@ -121,6 +122,36 @@ typedef struct {
 
 sxf_unit sxf_unit_of(const uint8_t *sheet, size_t sheet_len, uint32_t year);
 
+/* The numbers of a point, in the order in which its elements stand. */
+enum {
+    SXF_NORTH = 0,
+    SXF_EAST = 1,
+    SXF_HEIGHT = 2
+};
+
+/* What a number is. */
+enum {
+    SXF_NO_NUMBER = 0, /* a text (sxf_value) */
+    SXF_WHOLE = 1,     /* an integer */
+    SXF_SINGLE = 2,    /* a floating number of four bytes */
+    SXF_DOUBLE = 3,    /* a floating number of eight bytes */
+    SXF_NAN = 4,       /* floating, and no number */
+    SXF_DECIMAL = 5    /* an integer times a power of ten (sxf_value) */
+};
+
+/* An element of a point: its unit, and byte where that is SXF_UNKNOWN_UNIT, else 0; how many bytes it has in the sheet; what kind of
+   number it is; and the bits, for sxf_double, of the double that it stands for, which is exact. For SXF_NAN the bits are those stored. */
+typedef struct {
+    uint64_t number, place, year, unit, byte, width, kind, bits;
+} sxf_coordinate;
+
+/* What an element stands for. rest is the sheet from SXF_REST_AT on, where its units stand: a caller names none. A height is in metres or
+   of unknown unit by its own byte, 237, whatever the unit of the plane. reference is the record's number of that name, bits an element of
+   its points, as sxf_unfold has them. Refused are, in this order, a dimension that is none of the three, SXF_ASK at place 0; a reference over
+   three bytes, SXF_TABLE at 3, its index in a record's row; a height of a record that has none, SXF_ASK at 0; bits too wide for the element,
+   SXF_TABLE at 0. No element of a sheet is refused. */
+sxf_coordinate sxf_coordinate_of(const uint8_t rest[304], uint32_t reference, uint32_t dimension, uint64_t bits);
+
 /* The eight plane corners as the bits stored, for sxf_double: X and Y of the south-west, north-west, north-east and south-east one.
    nan_at is the place in the sheet of the first that is a NaN, or 0 if all are numbers. */
 typedef struct {
@@ -145,15 +176,17 @@ typedef struct {
 /* flags is the sheet's byte at 96, byte a record's generalisation. */
 sxf_visibility sxf_visibility_of(uint8_t flags, uint8_t byte);
 
-/* whole times ten to the power. is_number 0: the type has no such number (or it is refused), and both are 0. */
+/* The value of an item. kind SXF_DECIMAL: whole times ten to the power. SXF_DOUBLE: the double of bits; SXF_NAN: bits as stored.
+   SXF_NO_NUMBER: a text. What a value does not have is 0. */
 typedef struct {
-    uint64_t number, place, year, is_number;
+    uint64_t number, place, year, kind, bits;
     int64_t whole, power;
 } sxf_value;
 
-/* The number of a semantic item: kind is its type, scale its scale byte, bits its value, lowest byte first. Types 1, 2 and 4 have such a
-   number, of so many low bytes of bits. Scale 0x80 is refused for these, SXF_SEMANTIC at place 3 of the item. */
-sxf_value sxf_value_of(uint8_t kind, uint8_t scale, uint32_t bits);
+/* The number of a semantic item: kind is its type, scale its scale byte, bits its value, lowest byte first. Types 1, 2 and 4 are decimals, of
+   so many low bytes of bits; type 8 is a double, whatever its scale; types 0, 126, 127 and 128 are texts. Scale 0x80 of a decimal is refused,
+   SXF_SEMANTIC at place 3 of the item, and a type that is none of these, SXF_SEMANTIC at 2. */
+sxf_value sxf_value_of(uint8_t kind, uint8_t scale, uint64_t bits);
 
 /* How many bytes of out are the sheet. */
 typedef struct {
@@ -194,9 +227,10 @@ SXF_SIZE(sxf_checked, 8);
 SXF_SIZE(sxf_record, 14);
 SXF_SIZE(sxf_head, 8);
 SXF_SIZE(sxf_unit, 5);
+SXF_SIZE(sxf_coordinate, 8);
 SXF_SIZE(sxf_corners, 12);
 SXF_SIZE(sxf_visibility, 3);
-SXF_SIZE(sxf_value, 6);
+SXF_SIZE(sxf_value, 7);
 SXF_SIZE(sxf_written, 4);
 SXF_SIZE(size_t, 1);
 #undef SXF_SIZE

@@ -17,9 +17,8 @@ use reading::units::unit_of;
 // How many numbers a call is asked with. They stand from 513 on. What is no call is asked with no count of numbers.
 fn asked(call: u64) -> u64 {
     match call {
-        names::COORDINATE => 6,
         names::UNFOLD | names::UNITS => 4,
-        names::VALUE => 3,
+        names::VALUE | names::COORDINATE => 3,
         names::RECORD | names::WRITE | names::VISIBILITY => 2,
         names::CHECK | names::HEAD | names::UNIT | names::CORNERS => 1,
         names::SETTING | names::CONSTANT => 1,
@@ -53,24 +52,24 @@ fn word(n: u64) -> u32 {
     (n % 0x100000000) as u32
 }
 
+// With the list `rest` for the passport's bytes.
+fn coordinate(form: &Form, bytes: &Bytes) {
+    let rest = writer::rest_of(lists::part(form, bytes, lists::REST));
+    values::coordinate_by(&rest, word(form[513]), form[514], form[515]);
+}
+
 fn on_numbers(form: &Form, call: u64) {
     match call {
         names::CONSTANT => year_of(constant(word(form[513]))),
         names::VISIBILITY => values::visibility(form[513], form[514]),
         names::VALUE => values::value(form[513], form[514], form[515]),
-        _ => {
-            let u = unit_of(
-                byte(form[513]),
-                word(form[514]),
-                byte(form[515]),
-                byte(form[516]),
-            );
-            if call == names::UNITS {
-                reader::unit(u);
-            } else {
-                values::coordinate_by(u, form[517], form[518]);
-            }
-        }
+        names::UNITS => reader::unit(unit_of(
+            byte(form[513]),
+            word(form[514]),
+            byte(form[515]),
+            byte(form[516]),
+        )),
+        _ => coordinate(form, &lists::bytes_of(form)),
     }
 }
 

@@ -3,12 +3,16 @@ use crate::print;
 use crate::print::number;
 use crate::reader::double_bits;
 use crate::reader::unit;
+use layout::Dimension;
+use layout::HeightUnit;
 use layout::Number;
 use layout::SemanticValue;
 use layout::SheetUnit;
-use layout::Stored;
 use layout::Visibility;
+use layout::passport;
 use reading::coordinates::Coordinate;
+use reading::coordinates::CoordinateAnswer;
+use reading::coordinates::Height;
 use reading::coordinates::coordinate_of;
 use reading::values::value_of;
 use reading::visibility::visibility_of;
@@ -45,17 +49,25 @@ fn signed(n: i64) {
     }
 }
 
-// A whole number and the power of ten that it is times, or the type of an item that has none.
+fn double(x: f64) {
+    print::word(b" double");
+    number(double_bits(x));
+}
+
+fn not_number(bits: u64) {
+    print::word(b" no number");
+    number(bits);
+}
+
+// A whole number and the power of ten that it is times, a double's bits, or the type of an item that is a text.
 pub fn value(kind: u64, scale: u64, bits: u64) {
-    match value_of(
-        (kind % 256) as u8,
-        (scale % 256) as u8,
-        (bits % 0x100000000) as u32,
-    ) {
+    match value_of((kind % 256) as u8, (scale % 256) as u8, bits) {
         SemanticValue::Number(d) => {
             signed(d.whole);
             signed(d.power);
         }
+        SemanticValue::Double(x) => double(x),
+        SemanticValue::NotNumber(b) => not_number(b),
         SemanticValue::Other(k) => {
             print::word(b" other");
             number(k as u64);
@@ -78,8 +90,7 @@ fn single_bits(f: f32) -> u64 {
     }
 }
 
-fn coordinate(u: SheetUnit, n: Number) {
-    unit(u);
+fn told(n: Number) {
     match n {
         Number::Whole(w) => {
             signed(w);
@@ -88,33 +99,53 @@ fn coordinate(u: SheetUnit, n: Number) {
             print::word(b" single");
             number(single_bits(f));
         }
-        Number::Double(f) => {
-            print::word(b" double");
-            number(double_bits(f));
-        }
-        Number::NotNumber(b) => {
-            print::word(b" no number");
-            number(b);
-        }
+        Number::Double(f) => double(f),
+        Number::NotNumber(b) => not_number(b),
     }
 }
 
-// Short, long, single and double are 0 to 3.
-fn element_by(kind: u64, bits: u64) -> Stored {
-    match kind {
-        0 => Stored::Short((bits % 0x10000) as u16),
-        1 => Stored::Long((bits % 0x100000000) as u32),
-        2 => Stored::Single((bits % 0x100000000) as u32),
-        _ => Stored::Double(bits),
-    }
+fn coordinate(u: SheetUnit, n: Number) {
+    unit(u);
+    told(n);
 }
 
-pub fn coordinate_by(u: SheetUnit, kind: u64, bits: u64) {
-    match coordinate_of(u, element_by(kind, bits)) {
+fn plane(c: Coordinate) {
+    match c {
         Coordinate::DevicePoints(c) => coordinate(SheetUnit::DevicePoints, c.number()),
         Coordinate::Metres(c) => coordinate(SheetUnit::Metres, c.number()),
         Coordinate::Radians(c) => coordinate(SheetUnit::Radians, c.number()),
         Coordinate::Degrees(c) => coordinate(SheetUnit::Degrees, c.number()),
-        Coordinate::Unknown(b, n) => coordinate(SheetUnit::Unknown(b), n),
+        Coordinate::Unknown(c) => coordinate(SheetUnit::Unknown(c.byte()), c.number()),
+    }
+}
+
+fn high(h: Height) {
+    print::word(b" height");
+    match h.unit() {
+        HeightUnit::Metres => {
+            print::word(b" metres");
+        }
+        HeightUnit::Unknown(b) => {
+            print::word(b" unknown");
+            number(b as u64);
+        }
+    }
+    told(h.number());
+}
+
+// North, east and height are 0 to 2.
+fn dimension_by(n: u64) -> Dimension {
+    match n {
+        0 => Dimension::North,
+        1 => Dimension::East,
+        _ => Dimension::Height,
+    }
+}
+
+pub fn coordinate_by(rest: &[u8; passport::REST_WIDTH], reference: u32, d: u64, bits: u64) {
+    match coordinate_of(rest, reference, dimension_by(d), bits) {
+        CoordinateAnswer::Plane(c) => plane(c),
+        CoordinateAnswer::Height(h) => high(h),
+        CoordinateAnswer::Refused(r) => print::refused(r),
     }
 }

@@ -18,7 +18,7 @@ fn byte_at(bytes: &[u8], at: usize) -> u8 {
     if at < bytes.len() { bytes[at] } else { 0 }
 }
 
-fn rest_of(bytes: &[u8]) -> [u8; passport::REST_WIDTH] {
+pub fn rest_of(bytes: &[u8]) -> [u8; passport::REST_WIDTH] {
     let mut rest = [0u8; passport::REST_WIDTH];
     let mut i = 0;
     while i < passport::REST_WIDTH {

@@ -5,3 +5,4 @@ pub mod Shapes
 pub mod Sums
 pub mod Headers
 pub mod Kinds
+pub mod Rests

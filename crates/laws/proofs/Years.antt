@@ -39,6 +39,15 @@ pub years : (s : List ℕ) (y : ℕ) → isSetting y ≡ true → reading y s �
 unfolding reading
 years s y e = rw e (sheet-years s y)
 
+-- At any other year nothing is read or written, whatever is lent. ("ASK: setting not one of nine [..]; place 0")
+pub no-setting : (s : List ℕ) (y : ℕ) → isSetting y ≡ false → reading y s ≡ refused ASK 0 0
+unfolding reading
+no-setting s y e = rw e
+
+pub no-setting-written : (h : Head) (t : Table) (room y : ℕ) → isSetting y ≡ false → written y h t room ≡ refused ASK 0 0
+unfolding written
+no-setting-written h t room y e = rw e
+
 -- TOO NEW comes before whatever is made of an answer
 late-then : {A B : Type 0} (l : Late) (a : Answer A) (f : A → Answer B) → andThen (orTooNew l a) f ≡ orTooNew l (andThen a f)
 late-then none a f = refl

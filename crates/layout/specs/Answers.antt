@@ -3,6 +3,7 @@
 pub mod Calls
 pub mod Enums
 pub mod Units
+pub mod Coordinates
 pub mod Corners
 pub mod Values
 pub mod Lent

@@ -1,4 +1,4 @@
--- What document 01 says, as definitions. Every contract of the library cites these; nobody has to believe anything else.
+-- What document 01 says, as definitions. What a public call answers is said by these; nobody has to believe anything else.
 --
 -- A line in quotation marks is document 01's own. To check a page against the document it is enough to know:
 --   ℕ                      a number from 0 on, as large as it may be: nothing wraps

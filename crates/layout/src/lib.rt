@@ -1,5 +1,5 @@
 // What the library answers: the types of its answers, and beside them (specs/) the definitions of document 01 that say which answer
-// is given when. Nothing here runs, and nothing is relied on. Every contract of the crates above cites these definitions.
+// is given when. Nothing here runs, and nothing is relied on. The contracts of the crates above say what they mean by these definitions.
 
 pub mod bounds;
 pub mod carried;
@@ -96,12 +96,38 @@ pub enum UnitAnswer {
     Refused(Refusal),
 }
 
+// The unit of a sheet's heights, which have a byte of their own; one that names no unit is kept.
+pub enum HeightUnit {
+    Metres,
+    Unknown(u8),
+}
+
+// Which number of a point an element is, in the order in which they are stored.
+pub enum Dimension {
+    North,
+    East,
+    Height,
+}
+
 // An element as stored: an integer of two or four bytes, or a floating number of four or eight.
 pub enum Stored {
     Short(u16),
     Long(u32),
     Single(u32),
     Double(u64),
+}
+
+// What asking for the element that stored bits are answers.
+pub enum ElementAnswer {
+    Element(Stored),
+    Refused(Refusal),
+}
+
+// An element in the unit of the sheet that it stands in. A height has its own unit, and never that of the plane.
+pub enum Measured {
+    Plane(SheetUnit, Stored),
+    Height(HeightUnit, Stored),
+    Refused(Refusal),
 }
 
 // What an element stands for. A floating element that is no number (NaN) keeps its bits.
@@ -155,10 +181,12 @@ pub struct Decimal {
     pub power: i64,
 }
 
-// The value of a semantic item as a number.
+// The value of a semantic item as a number: an integer with its scale, or a double. A double that is no number (NaN) keeps its bits.
 pub enum SemanticValue {
     Number(Decimal),
-    // The item's type has no such number.
+    Double(f64),
+    NotNumber(u64),
+    // The item is a text: its type.
     Other(u8),
     Refused(Refusal),
 }

@@ -27,6 +27,8 @@ pub const SE_Y: usize = 64;
 
 pub const UNIT: usize = 140;
 
+pub const HEIGHT_UNIT: usize = 141;
+
 pub const RESOLUTION: usize = 216;
 
 pub const NORTH: usize = 288;

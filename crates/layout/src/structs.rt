@@ -54,8 +54,18 @@ pub struct SxfHead {
     pub scale: u64,
 }
 
-// number 0: 1 device points, 2 metres, 3 radians, 4 degrees, or 5 and the byte that names no unit. Otherwise the refusal, and the rest
-// is 0.
+// The units by their numbers.
+pub const DEVICE_POINTS: u64 = 1;
+
+pub const METRES: u64 = 2;
+
+pub const RADIANS: u64 = 3;
+
+pub const DEGREES: u64 = 4;
+
+pub const UNKNOWN_UNIT: u64 = 5;
+
+// number 0: a unit, and for an unknown one the byte that names none. Otherwise the refusal, and the rest is 0.
 #[repr(C)]
 pub struct SxfUnit {
     pub number: u64,
@@ -90,13 +100,49 @@ pub struct SxfVisibility {
     pub upper: u64,
 }
 
-// is_number 1: whole times ten to the power. is_number 0: the type has no such number, or it is refused; both are 0.
+// What a number is, by its number: a coordinate is WHOLE, SINGLE, DOUBLE or NAN; an item's value is DECIMAL, DOUBLE or NAN, and a text NO_NUMBER.
+pub const NO_NUMBER: u64 = 0;
+
+pub const WHOLE: u64 = 1;
+
+pub const SINGLE: u64 = 2;
+
+pub const DOUBLE: u64 = 3;
+
+pub const NAN: u64 = 4;
+
+pub const DECIMAL: u64 = 5;
+
+// The dimensions by their numbers.
+pub const NORTH: u32 = 0;
+
+pub const EAST: u32 = 1;
+
+pub const HEIGHT: u32 = 2;
+
+// number 0: an element of so many bytes in a unit, what kind of number it is, and the bits of the double that it stands for; for a NaN the
+// bits are those stored. Otherwise the refusal, and the rest is 0.
+#[repr(C)]
+pub struct SxfCoordinate {
+    pub number: u64,
+    pub place: u64,
+    pub year: u64,
+    pub unit: u64,
+    pub byte: u64,
+    pub width: u64,
+    pub kind: u64,
+    pub bits: u64,
+}
+
+// number 0: kind says whether the value is whole times ten to the power, a double or a NaN of these bits, or a text, which is no number.
+// Otherwise the refusal. What a value does not have is 0.
 #[repr(C)]
 pub struct SxfValue {
     pub number: u64,
     pub place: u64,
     pub year: u64,
-    pub is_number: u64,
+    pub kind: u64,
+    pub bits: u64,
     pub whole: i64,
     pub power: i64,
 }

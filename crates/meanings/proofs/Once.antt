@@ -2,6 +2,16 @@
 -- as the check reads them, so that a contract that says less is refused here.
 use Rattle.meanings.proofs.coordinates.coordinate_of.Kinds as coordinate-of-kinds
 use Rattle.meanings.proofs.coordinates.coordinate_of.Reads as coordinate-of
+use Rattle.meanings.proofs.coordinates.measure_of.Kinds as measure-of-kinds
+use Rattle.meanings.proofs.coordinates.measure_of.Reads as measure-of
+use Rattle.meanings.proofs.coordinates.UnknownUnit.byte.Kinds as unknown-byte-kinds
+use Rattle.meanings.proofs.coordinates.UnknownUnit.byte.Reads as unknown-byte
+use Rattle.meanings.proofs.coordinates.UnknownUnit.number.Kinds as unknown-number-kinds
+use Rattle.meanings.proofs.coordinates.UnknownUnit.number.Reads as unknown-number
+use Rattle.meanings.proofs.coordinates.Height.unit.Kinds as height-unit-kinds
+use Rattle.meanings.proofs.coordinates.Height.unit.Reads as height-unit
+use Rattle.meanings.proofs.coordinates.Height.number.Kinds as height-number-kinds
+use Rattle.meanings.proofs.coordinates.Height.number.Reads as height-number
 use Rattle.meanings.proofs.coordinates.DevicePoints.number.Kinds as device-points-number-kinds
 use Rattle.meanings.proofs.coordinates.DevicePoints.number.Reads as device-points-number
 use Rattle.meanings.proofs.coordinates.Metres.number.Kinds as metres-number-kinds
@@ -14,12 +24,16 @@ use Rattle.meanings.proofs.corners.not_number.Kinds as not-number-kinds
 use Rattle.meanings.proofs.corners.not_number.Reads as not-number
 use Rattle.meanings.proofs.corners.corners_of.Kinds as corners-of-kinds
 use Rattle.meanings.proofs.corners.corners_of.Reads as corners-of
+use Rattle.meanings.proofs.elements.element_of.Kinds as element-of-kinds
+use Rattle.meanings.proofs.elements.element_of.Reads as element-of
 use Rattle.meanings.proofs.setting.Setting.new.Kinds as setting-new-kinds
 use Rattle.meanings.proofs.setting.Setting.new.Reads as setting-new
 use Rattle.meanings.proofs.setting.Setting.year.Kinds as setting-year-kinds
 use Rattle.meanings.proofs.setting.Setting.year.Reads as setting-year
 use Rattle.meanings.proofs.units.unit_of.Kinds as unit-of-kinds
 use Rattle.meanings.proofs.units.unit_of.Reads as unit-of
+use Rattle.meanings.proofs.units.height_unit_of.Kinds as height-unit-of-kinds
+use Rattle.meanings.proofs.units.height_unit_of.Reads as height-unit-of
 use Rattle.meanings.proofs.units.number_of.Kinds as number-of-kinds
 use Rattle.meanings.proofs.units.number_of.Reads as number-of
 use Rattle.meanings.proofs.values.value_of.Kinds as value-of-kinds
@@ -36,6 +50,12 @@ use mathlib.Core.Path.{_≡_, sym, _∙_}
 abbrev pub Once : {n : _} (ps : List (PK n)) (r : RK n) → Out n ps r → Type 0
 Once {n} ps r Post = (κs : Lfts n) (a : Dens κs ps) (x y : resT r κs .Denot) (e f : AtExit (endedOf n ps r) κs) → Post κs a x e → Post κs a y f → x ≡ y
 
+pub once-element-of : Once element-of-kinds.ps element-of-kinds.r element-of.Post
+once-element-of κs a x y e f p q = p ∙ sym q
+
+pub once-measure-of : Once measure-of-kinds.ps measure-of-kinds.r measure-of.Post
+once-measure-of κs a x y e f p q = p ∙ sym q
+
 pub once-coordinate-of : Once coordinate-of-kinds.ps coordinate-of-kinds.r coordinate-of.Post
 once-coordinate-of κs a x y e f p q = p ∙ sym q
 
@@ -51,6 +71,18 @@ once-radians-number κs a x y e f p q = p ∙ sym q
 pub once-degrees-number : Once degrees-number-kinds.ps degrees-number-kinds.r degrees-number.Post
 once-degrees-number κs a x y e f p q = p ∙ sym q
 
+pub once-unknown-byte : Once unknown-byte-kinds.ps unknown-byte-kinds.r unknown-byte.Post
+once-unknown-byte κs a x y e f p q = p ∙ sym q
+
+pub once-unknown-number : Once unknown-number-kinds.ps unknown-number-kinds.r unknown-number.Post
+once-unknown-number κs a x y e f p q = p ∙ sym q
+
+pub once-height-unit : Once height-unit-kinds.ps height-unit-kinds.r height-unit.Post
+once-height-unit κs a x y e f p q = p ∙ sym q
+
+pub once-height-number : Once height-number-kinds.ps height-number-kinds.r height-number.Post
+once-height-number κs a x y e f p q = p ∙ sym q
+
 pub once-not-number : Once not-number-kinds.ps not-number-kinds.r not-number.Post
 once-not-number κs a x y e f p q = p ∙ sym q
 
@@ -65,6 +97,9 @@ once-setting-year κs a x y e f p q = p ∙ sym q
 
 pub once-unit-of : Once unit-of-kinds.ps unit-of-kinds.r unit-of.Post
 once-unit-of κs a x y e f p q = p ∙ sym q
+
+pub once-height-unit-of : Once height-unit-of-kinds.ps height-unit-of-kinds.r height-unit-of.Post
+once-height-unit-of κs a x y e f p q = p ∙ sym q
 
 pub once-number-of : Once number-of-kinds.ps number-of-kinds.r number-of.Post
 once-number-of κs a x y e f p q = p ∙ sym q

@@ -1,17 +1,21 @@
--- What `cornersOf` promises of the doubles: each has the bits stored. (01, Passport: "as doubles, each with its stored bits")
-use Prim.Native.Nat.{ℕ, _^_, _<_}
-use Rattle.layout.specs.Answers.Corners.{cornersOf}
+-- What `cornersOf` promises: each double has the bits stored, and where one is a NaN the bits are answered as they are. (01, Passport:
+-- "answered together as doubles, each with its stored bits")
+use Prim.Native.Nat.{ℕ, _+_, _^_, _<_}
+use Rattle.layout.specs.Answers.Corners.{doubles, cornersFrom, cornersOf}
+use Rattle.layout.specs.Answers.Structs.{bitsOf}
+use Rattle.layout.specs.Bytes.{All}
+use Rattle.layout.specs.Fields.Passport
 use Rattle.layout.specs.declared.CornerBits.{CornerBits}
-use Rattle.layout.specs.declared.Corners.the-variants.{Doubles, Bits}
+use Rattle.layout.specs.declared.Corners.the-variants.{Doubles, Bits, Refused}
 use Rattle.layout.specs.declared.Corners.{Corners}
-use Rattle.layout.specs.declared.PlaneCorners.{PlaneCorners}
+use Rattle.meanings.specs.Places.{eight, placeOr, firstFrom, firstNone}
 use lib.Dec.{T}
-use lib.Ieee.{Float, inf, fin, binary64, nanBits, ofBits, toBits}
+use lib.Ieee.{inf, fin, binary64, nanBits, ofBits, toBits}
 use lib.Ieee.Bits.{toBits-ofBits, nanBits-is}
 use lib.IntN.{pos, negsuc}
 use mathlib.Core.Bool.{Bool, true, false, not, cond}
+use mathlib.Core.List.{List, [], _∷_}
 use mathlib.Core.Path.{_≡_, refl, sym, subst, _∙_}
-use native.Mathlib.Omega.{arith}
 
 -- a number's double has its bits
 pub has-bits : (n : ℕ) → n < 2 ^ 64 → nanBits binary64 n ≡ false → toBits binary64 (ofBits binary64 n) ≡ n
@@ -25,17 +29,6 @@ kinds : (ofBits binary64 0x7FF0000000000000 ≡ inf false) × (ofBits binary64 0
 unfolding ofBits nanBits toBits
 kinds = (refl, refl, refl, refl, refl, refl, refl, refl)
 
--- the eight, each with its stored bits
-pub record Same (b : CornerBits) (c : PlaneCorners) : Type 0 where
-  pub sw-x : toBits binary64 (c .«sw_x») ≡ b .«sw_x»
-  pub sw-y : toBits binary64 (c .«sw_y») ≡ b .«sw_y»
-  pub nw-x : toBits binary64 (c .«nw_x») ≡ b .«nw_x»
-  pub nw-y : toBits binary64 (c .«nw_y») ≡ b .«nw_y»
-  pub ne-x : toBits binary64 (c .«ne_x») ≡ b .«ne_x»
-  pub ne-y : toBits binary64 (c .«ne_y») ≡ b .«ne_y»
-  pub se-x : toBits binary64 (c .«se_x») ≡ b .«se_x»
-  pub se-y : toBits binary64 (c .«se_y») ≡ b .«se_y»
-
 -- the eight are of 64 bits, as every CornerBits of the code is
 pub record Words (b : CornerBits) : Type 0 where
   pub sw-x : b .«sw_x» < 2 ^ 64
@@ -47,32 +40,46 @@ pub record Words (b : CornerBits) : Type 0 where
   pub se-x : b .«se_x» < 2 ^ 64
   pub se-y : b .«se_y» < 2 ^ 64
 
--- one link of the chain of tests: past it, the test was false
-past : (b : Bool) (m : Corners) (x : ℕ) (y : CornerBits) {c : PlaneCorners} {G : Type 0} → cond b (Bits x y) m ≡ Doubles c → (b ≡ false → m ≡ Doubles c → G) → G
-past true m x y e f = absurd (let z : _≡_ {A = ℕ} 0 1 = cc in omega arith)
-past false m x y e f = f refl e
+abbrev Real : ℕ → Type 0
+Real b = nanBits binary64 b ≡ false
 
-held : {n : ℕ} {x y : Float} → toBits binary64 x ≡ n → x ≡ y → toBits binary64 y ≡ n
-held {n} h e = subst (λ (z : Float). toBits binary64 z ≡ n) e h
+-- What holds of eight as stored, with the place of the first that is a NaN, and of eight doubles if all are numbers, holds of the answer.
+module _ (P : Corners → ℕ → Type 0) (c : CornerBits) (stored : (place : ℕ) → P (Bits place c) place) where
+  past : (test : Bool) (b place later : ℕ) (m : Corners) → nanBits binary64 b ≡ test → (Real b → P m later)
+      → P (cond test (Bits place c) m) (cond test place later)
+  past true b place later m t k = stored place
+  past false b place later m t k = k t
 
-pub doubles-same : (b : CornerBits) (c : PlaneCorners) → Words b → cornersOf b ≡ Doubles c → Same b c
-unfolding cornersOf
-doubles-same b c w e =
-    past (nanBits binary64 (b .«sw_x»)) _ 104 b e (λ n0 e.
-    past (nanBits binary64 (b .«sw_y»)) _ 112 b e (λ n1 e.
-    past (nanBits binary64 (b .«nw_x»)) _ 120 b e (λ n2 e.
-    past (nanBits binary64 (b .«nw_y»)) _ 128 b e (λ n3 e.
-    past (nanBits binary64 (b .«ne_x»)) _ 136 b e (λ n4 e.
-    past (nanBits binary64 (b .«ne_y»)) _ 144 b e (λ n5 e.
-    past (nanBits binary64 (b .«se_x»)) _ 152 b e (λ n6 e.
-    past (nanBits binary64 (b .«se_y»)) _ 160 b e (λ n7 e.
-    record {
-      sw-x = held (has-bits _ (w .sw-x) n0) (cc);
-      sw-y = held (has-bits _ (w .sw-y) n1) (cc);
-      nw-x = held (has-bits _ (w .nw-x) n2) (cc);
-      nw-y = held (has-bits _ (w .nw-y) n3) (cc);
-      ne-x = held (has-bits _ (w .ne-x) n4) (cc);
-      ne-y = held (has-bits _ (w .ne-y) n5) (cc);
-      se-x = held (has-bits _ (w .se-x) n6) (cc);
-      se-y = held (has-bits _ (w .se-y) n7) (cc);
-    }))))))))
+  by-list : (place : ℕ) (bs : List ℕ) → (All Real bs → P (Doubles (doubles c)) 0) → P (cornersFrom place bs c) (firstFrom place bs)
+  unfolding placeOr
+  by-list place [] k = k tt
+  by-list place (b ∷ bs) k =
+      past (nanBits binary64 b) b place (firstFrom (place + 8) bs) (cornersFrom (place + 8) bs c) refl (λ r. by-list (place + 8) bs (λ h. k (r, h)))
+
+  pub by-eight : (All Real (eight c) → P (Doubles (doubles c)) 0) → P (cornersOf c) (firstNone c)
+  unfolding cornersOf firstNone
+  by-eight k = by-list (Passport.corners .place) (eight c) k
+
+-- eight numbers, as doubles and back
+pub all-back : (c : CornerBits) → Words c → All Real (eight c) → bitsOf (doubles c) ≡ c
+all-back c w r =
+    rw (
+      has-bits (c .«sw_x») (w .sw-x) (r .0),
+      has-bits (c .«sw_y») (w .sw-y) (r .1 .0),
+      has-bits (c .«nw_x») (w .nw-x) (r .1 .1 .0),
+      has-bits (c .«nw_y») (w .nw-y) (r .1 .1 .1 .0),
+      has-bits (c .«ne_x») (w .ne-x) (r .1 .1 .1 .1 .0),
+      has-bits (c .«ne_y») (w .ne-y) (r .1 .1 .1 .1 .1 .0),
+      has-bits (c .«se_x») (w .se-x) (r .1 .1 .1 .1 .1 .1 .0),
+      has-bits (c .«se_y») (w .se-y) (r .1 .1 .1 .1 .1 .1 .1 .0),
+    )
+    refl
+
+-- An answer keeps the bits c: its doubles have them, field by field; or it has them as they are, with the place of the first that is a NaN.
+abbrev pub Keeps : CornerBits → Corners → ℕ → Type 0
+Keeps c (Doubles d) none = bitsOf d ≡ c
+Keeps c (Bits place b) none = (b ≡ c) × (place ≡ none)
+Keeps c (Refused r) none = Unit {0}
+
+pub corners-same : (c : CornerBits) → Words c → Keeps c (cornersOf c) (firstNone c)
+corners-same c w = by-eight (Keeps c) c (λ place. (refl, refl)) (all-back c w)

@@ -1,6 +1,7 @@
-// The unit of a sheet, and the number that an element stands for. (01, Passport)
-ghost use Rattle.layout.specs.Answers.Units.{unitOf, numberOf};
+// The unit of a sheet and that of its heights, and the number that an element stands for. (01, Passport)
+ghost use Rattle.layout.specs.Answers.Units.{unitOf, heightUnitOf, numberOf};
 ghost use mathlib.Core.Path.{_≡_};
+use layout::HeightUnit;
 use layout::Number;
 use layout::SheetUnit;
 use layout::Stored;
@@ -18,6 +19,16 @@ pub fn unit_of(flags: u8, resolution: u32, accuracy: u8, unit: u8) -> SheetUnit
         }
     } else {
         SheetUnit::DevicePoints
+    }
+}
+
+// From the byte at +237: heights have a unit of their own.
+pub fn height_unit_of(unit: u8) -> HeightUnit
+    ensures { λ r. ⌜ r ≡ heightUnitOf unit ⌝ }
+{
+    match unit {
+        0 => HeightUnit::Metres,
+        _ => HeightUnit::Unknown(unit),
     }
 }
 

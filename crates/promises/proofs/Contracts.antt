@@ -9,16 +9,22 @@ use contract.Lifetimes.{Lfts}
 use denote.Ref.{now}
 use denote.Triple.Clauses.{AtExit}
 use Rattle.layout.specs.Answers.Calls.{reading, roomy, unfolded, asked, written, lent}
+use Rattle.layout.specs.Answers.Coordinates.{measureOf}
 use Rattle.layout.specs.Answers.Enums.{checkedOf, foundOf, headedOf, unitIn, cornersIn, writtenOf}
 use Rattle.layout.specs.Answers.Lent.{headOf, rooms, theNumbers, theElements, theBytes, theSheet}
 use Rattle.layout.specs.Sheet.{Head, Table}
 use Rattle.layout.specs.Writing.Tables.{table}
 use Rattle.layout.specs.declared.Checked.{Checked}
 use Rattle.layout.specs.declared.Corners.{Corners}
+use Rattle.layout.specs.declared.Dimension.{Dimension}
 use Rattle.layout.specs.declared.Found.{Found}
 use Rattle.layout.specs.declared.Headed.{Headed}
 use Rattle.layout.specs.declared.UnitAnswer.{UnitAnswer}
 use Rattle.layout.specs.declared.Written.{Written}
+use Rattle.meanings.proofs.coordinates.coordinate_of.Kinds as coordinate-kinds
+use Rattle.meanings.proofs.coordinates.coordinate_of.Reads as coordinate-of
+use Rattle.meanings.specs.Coordinates.{coordinateIn}
+use Rattle.meanings.specs.declared.coordinates.CoordinateAnswer.{CoordinateAnswer}
 use Rattle.reading.proofs.heads.corners_by_year.Kinds as corners-by-year-kinds
 use Rattle.reading.proofs.heads.corners_by_year.Reads as corners-by-year
 use Rattle.reading.proofs.heads.corners_of.Kinds as corners-kinds
@@ -88,11 +94,11 @@ unit-by-year-says κs a x e p = p
 abbrev pub Cornered : ℕ → List ℕ → Corners → Type 0
 Cornered y s r = r ≡ cornersIn (reading y s)
 
-pub corners-say : Says corners-kinds.ps corners-kinds.r corners-of.Post (λ κs a x e. Cornered (a .1 .0 .year) (now (a .0)) x)
-corners-say κs a x e p = p
+pub corners-says : Says corners-kinds.ps corners-kinds.r corners-of.Post (λ κs a x e. Cornered (a .1 .0 .year) (now (a .0)) x)
+corners-says κs a x e p = p
 
-pub corners-by-year-say : Says corners-by-year-kinds.ps corners-by-year-kinds.r corners-by-year.Post (λ κs a x e. Cornered (a .1 .0) (now (a .0)) x)
-corners-by-year-say κs a x e p = p
+pub corners-by-year-says : Says corners-by-year-kinds.ps corners-by-year-kinds.r corners-by-year.Post (λ κs a x e. Cornered (a .1 .0) (now (a .0)) x)
+corners-by-year-says κs a x e p = p
 
 -- `record_at`, of the record of a number
 abbrev pub Finds : ℕ → List ℕ → ℕ → Found → Type 0
@@ -104,6 +110,14 @@ record-says κs a x e p = p
 pub record-by-year-says : Says record-by-year-kinds.ps record-by-year-kinds.r record-by-year.Post
     (λ κs a x e. Finds (a .1 .0) (now (a .0)) (a .1 .1 .0) x)
 record-by-year-says κs a x e p = p
+
+-- `coordinate_of`, of the passport's bytes from +96 on, a reference number, a dimension and stored bits
+abbrev pub Coordinates : List ℕ → ℕ → Dimension → ℕ → CoordinateAnswer → Type 0
+Coordinates rest reference d bits r = r ≡ coordinateIn (measureOf rest reference d bits)
+
+pub coordinate-says : Says coordinate-kinds.ps coordinate-kinds.r coordinate-of.Post
+    (λ κs a x e. Coordinates (now (a .0)) (a .1 .0) (a .1 .1 .0) (a .1 .1 .1 .0) x)
+coordinate-says κs a x e p = p
 
 -- `unfold`, with three slices that held t₀, e₀, b₀ and then hold t₁, e₁, b₁
 abbrev pub Unfolds : ℕ → (s t₀ e₀ b₀ t₁ e₁ b₁ : List ℕ) → Checked → Type 0

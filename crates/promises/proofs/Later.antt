@@ -39,8 +39,8 @@ module _ (y : ℕ) (h : Head) (t : Table) (o out : List ℕ) (n : ℕ) (w : Writ
   told : {X : Type 0} (f : Answer Sheet → X) (r q : X) → r ≡ f (reading y it) → q ≡ f (reading z it) → q ≡ r
   told f r q c d = d ∙ ap f same ∙ sym c
 
-  pub later : (r q : Checked) → Checks y it r → Checks z it q → q ≡ r
-  later = told checkedOf
+  pub check-later : (r q : Checked) → Checks y it r → Checks z it q → q ≡ r
+  check-later = told checkedOf
 
   pub head-later : (r q : Headed) → Heads y it r → Heads z it q → q ≡ r
   head-later = told headedOf

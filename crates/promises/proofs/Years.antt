@@ -3,24 +3,25 @@
 -- feature's place and year.") Of each call two are held side by side, one at the year y and one at 2017, on the same sheet or table and the
 -- same slices. The features come from the sheet or the table alone (`met`); ROOM and a record number asked for come after them. One law
 -- (`told`) carries what the laws say of answers over to what the calls tell of them.
-use mathlib.Core.Bool.{true}
+use mathlib.Core.Bool.{true, false}
 use mathlib.Core.List.{List, [], _∷_}
 use mathlib.Core.Path.{_≡_, refl, sym, ap, _∙_}
 use Prim.Native.Nat.{ℕ, _+_, _≤_}
 use lib.Ieee.{binary64, nanBits}
 use lib.ListN.{length}
 use native.Mathlib.Omega.{arith}
-use Rattle.layout.specs.Answers.Calls.{reading, roomy, Placed, asked, written, lent}
+use Rattle.layout.specs.Answers.Calls.{andThen, reading, inRooms, roomy, unfolded, Placed, recordOf, asked, written, lent}
 use Rattle.layout.specs.Answers.Corners.{cornerBits, cornersFrom, cornersOf}
 use Rattle.layout.specs.Answers.Enums.{refusal, checkedOf, foundOf, headedOf, unitIn, cornersIn, writtenOf}
 use Rattle.layout.specs.Answers.Lent.{rooms, theNumbers, theElements, theBytes, theSheet}
 use Rattle.layout.specs.Bytes.{All}
 use Rattle.layout.specs.Fields.Passport
-use Rattle.layout.specs.Reading.Sheets.{sheetWalk}
-use Rattle.layout.specs.Refusals.{TOO-NEW}
+use Rattle.layout.specs.Reading.Sheets.{start, sheetWalk}
+use Rattle.layout.specs.Refusals.{TOO-NEW, ASK}
 use Rattle.layout.specs.Sheet.{Head, Sheet, Table}
 use Rattle.layout.specs.Walk.{Answer, given, refused, Met, met, Late, none, late, firstLate, orTooNew}
 use Rattle.layout.specs.Writing.Sheets.{tableWalk}
+use Rattle.layout.specs.Writing.Tables.{flatten}
 use Rattle.layout.specs.Years.{isSetting}
 use Rattle.layout.specs.declared.Checked.the-variants as Check
 use Rattle.layout.specs.declared.Checked.{Checked}
@@ -114,6 +115,53 @@ write-years y ok h t o out new r q c d =
     let l = firstLate y (met (tableWalk h t)) in
     let e = Law.years-written h t (length o) y ok in
     (told writtenOf _ (λ p z. refl) l _ _ e r q (c .0) (d .0), told (λ a. lent theSheet a o) _ (λ p z. refl) l _ _ e out new (c .1) (d .1))
+
+-- At a year that is none of the nine every call answers ASK at place 0, and leaves the slices as they were.
+abbrev pub ask : Refusal
+ask = refusal ASK 0 0
+
+module _ (y : ℕ) (other : isSetting y ≡ false) (s : List ℕ) where
+  not-read : {B : Type 0} (f : Sheet → Answer B) → andThen (reading y s) f ≡ refused ASK 0 0
+  not-read f = ap (λ a. andThen a f) (Law.no-setting s y other)
+
+  pub check-ask : (r : Checked) → Checks y s r → r ≡ Check.Refused ask
+  unfolding checkedOf
+  check-ask r c = c ∙ ap checkedOf (Law.no-setting s y other)
+
+  pub head-ask : (r : Headed) → Heads y s r → r ≡ Head-of.Refused ask
+  unfolding headedOf
+  head-ask r c = c ∙ ap headedOf (Law.no-setting s y other)
+
+  pub unit-ask : (r : UnitAnswer) → Units y s r → r ≡ Unit-of.Refused ask
+  unfolding unitIn
+  unit-ask r c = c ∙ ap unitIn (Law.no-setting s y other)
+
+  pub corners-ask : (r : Corners) → Cornered y s r → r ≡ Corner.Refused ask
+  unfolding cornersIn
+  corners-ask r c = c ∙ ap cornersIn (Law.no-setting s y other)
+
+  pub record-ask : (number : ℕ) (r : Found) → Finds y s number r → r ≡ Find.Refused ask
+  unfolding foundOf asked
+  record-ask number r c = c ∙ ap foundOf (not-read (λ t. recordOf start (t .records) number))
+
+  pub unfold-ask : (t₀ e₀ b₀ t₁ e₁ b₁ : List ℕ) (r : Checked) → Unfolds y s t₀ e₀ b₀ t₁ e₁ b₁ r
+      → (r ≡ Check.Refused ask) × (t₁ ≡ t₀) × (e₁ ≡ e₀) × (b₁ ≡ b₀)
+  unfolding checkedOf roomy unfolded
+  unfold-ask t₀ e₀ b₀ t₁ e₁ b₁ r c =
+      let m = rooms t₀ e₀ b₀ in
+      let filled = not-read (λ t. inRooms m (flatten (t .records))) in (
+        c .0 ∙ ap checkedOf (not-read (λ t. andThen (inRooms m (flatten (t .records))) (λ _. given t))),
+        c .1 .0 ∙ ap (λ a. lent theNumbers a t₀) filled,
+        c .1 .1 .0 ∙ ap (λ a. lent theElements a e₀) filled,
+        c .1 .1 .1 ∙ ap (λ a. lent theBytes a b₀) filled,
+      )
+
+pub write-ask : (y : ℕ) → isSetting y ≡ false → (h : Head) (t : Table) (o out : List ℕ) (r : Written) → Writes y h t o out r
+    → (r ≡ Write.Refused ask) × (out ≡ o)
+unfolding writtenOf
+write-ask y other h t o out r c =
+    let e = Law.no-setting-written h t (length o) y other in
+    (c .0 ∙ ap writtenOf e, c .1 ∙ ap (λ a. lent theSheet a o) e)
 
 -- At 2017 no call answers TOO NEW. First which refusal a call tells of.
 checked-back : (a : Answer Sheet) (q : Refusal) → Check.Refused q ≡ checkedOf a → a ≡ refused (q .number) (q .place) (q .year)

@@ -3,9 +3,10 @@
 // Relied on: the contracts of `reading` and `writing` as the check reads them, the laws of `laws`, and what `fields` says of parts and copies.
 //
 // Promised, as theorems about those contracts (proofs/): the 2017 reader accepts exactly what keeps the layout and answers as it says
-// (Exact); what a setting changes, for every call (Years); both round trips, with the head as a caller has it in hand (Again, Heads); and
-// that what is written reads the same at every later setting (Later). Those of Exact, Again and Later ask that what stands for a lent slice
-// of bytes is bytes, since a contract is about lists of any numbers.
+// (Exact); what a setting changes, for every call (Years); both round trips, with the head as a caller has it in hand (Again, Heads);
+// that what is written reads the same at every later setting (Later); the bits of the corners and the unit of a coordinate, from the
+// sheet's bytes (Stored); and that every element of a sheet has an answer (Elements). Where it matters they ask for what the types of what is
+// lent say (`Bytes`, `Typed`), since a contract is about lists of any numbers.
 //
 // Promised, as functions that ask nothing: what the types of lent slices say (`lent`), that acceptance is keeping the layout (`kept`), and
 // both round trips (`round`).

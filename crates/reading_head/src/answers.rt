@@ -9,8 +9,9 @@ ghost use Rattle.layout.specs.Fields.Passport;
 ghost use Rattle.layout.specs.Reading.Sheets.{sheetWalk};
 ghost use Rattle.layout.specs.Sheet.{Sheet};
 ghost use Rattle.layout.specs.Walk.{outcome, ends};
-ghost use Rattle.reading_head.specs.Read.{Read, restUnit};
+ghost use Rattle.reading_head.specs.Read.{Read};
 use fields::numbers;
+use fields::rests;
 use fields::texts;
 use layout::CornerBits;
 use layout::Corners;
@@ -49,23 +50,12 @@ pub fn head_in(s: &[u8]) -> HeadAt
     }
 }
 
-// The unit, from the 304 bytes from +96: flags, accuracy, unit and resolution.
-fn rest_unit(r: &[u8]) -> SheetUnit
-    requires { ⌜ Passport.rest .width ≤ length (now r) ⌝ }
-    ensures { λ u. ⌜ u ≡ restUnit (now (r .entry)) ⌝ }
-{
-    let flags = numbers::u8_at(r, rest::FLAGS);
-    let resolution = numbers::u32_at(r, rest::RESOLUTION);
-    let accuracy = numbers::u8_at(r, rest::ACCURACY);
-    let unit = numbers::u8_at(r, rest::UNIT);
-    units::unit_of(flags, resolution, accuracy, unit)
-}
-
 pub fn unit_in(s: &[u8]) -> SheetUnit
     requires { ⌜ Read (now s) ⌝ }
     ensures { λ r. ⌜ ((t : Sheet) → outcome (sheetWalk (now (s .entry))) ≡ ends t → r ≡ sheetUnit (t .head)) ⌝ }
 {
-    rest_unit(numbers::part(s, passport::REST, passport::REST_WIDTH))
+    let b = rests::unit_bytes(numbers::part(s, passport::REST, passport::REST_WIDTH));
+    units::unit_of(b.flags, b.resolution, b.accuracy, b.unit)
 }
 
 // The stored bits of the corners, from the same bytes.

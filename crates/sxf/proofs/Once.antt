@@ -1,5 +1,7 @@
 -- Each call has one right answer for each input: two results that meet its contract are equal, and so is what they leave in the lent
 -- slices.
+use Rattle.sxf.proofs.coordinates.sxf_coordinate_of.Kinds as coordinate-of-kinds
+use Rattle.sxf.proofs.coordinates.sxf_coordinate_of.Reads as coordinate-of
 use Rattle.sxf.proofs.heads.sxf_corners_of.Kinds as corners-of-kinds
 use Rattle.sxf.proofs.heads.sxf_corners_of.Reads as corners-of
 use Rattle.sxf.proofs.heads.sxf_head_of.Kinds as head-of-kinds
@@ -63,3 +65,6 @@ once-sxf-visibility-of κs a x y e f p q = p ∙ sym q
 
 pub once-sxf-value-of : Once value-of-kinds.ps value-of-kinds.r value-of.Post
 once-sxf-value-of κs a x y e f p q = p ∙ sym q
+
+pub once-sxf-coordinate-of : Once coordinate-of-kinds.ps coordinate-of-kinds.r coordinate-of.Post
+once-sxf-coordinate-of κs a x y e f p q = p ∙ sym q

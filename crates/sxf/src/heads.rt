@@ -2,14 +2,14 @@
 ghost use mathlib.Core.Path.{_≡_};
 ghost use Rattle.layout.specs.Answers.Calls.{reading};
 ghost use Rattle.layout.specs.Answers.Enums.{headedOf, unitIn, cornersIn};
-ghost use Rattle.layout.specs.Answers.Structs.{headRow, unitRow, unitKnown, unitAs, cornersRow, bitsRow, bitsOf};
+ghost use Rattle.layout.specs.Answers.Structs.{headRow, unitRow, cornersRow, bitsRow, bitsOf};
 ghost use Rattle.sxf.specs.Doubles.{Numbers, Defined};
+use crate::units;
 use layout::CornerBits;
 use layout::Corners;
 use layout::Headed;
 use layout::PlaneCorners;
 use layout::Refusal;
-use layout::SheetUnit;
 use layout::UnitAnswer;
 use layout::structs::SxfCorners;
 use layout::structs::SxfHead;
@@ -50,35 +50,11 @@ pub extern "C" fn sxf_head_of(sheet: &[u8], year: u32) -> SxfHead
     head_row(heads::head_by_year(sheet, year))
 }
 
-fn unit_as(unit: u64, byte: u8) -> SxfUnit
-    ensures { λ r. ⌜ r ≡ unitAs unit byte ⌝ }
-{
-    SxfUnit {
-        number: 0,
-        place: 0,
-        year: 0,
-        unit,
-        byte: byte as u64,
-    }
-}
-
-fn unit_known(u: SheetUnit) -> SxfUnit
-    ensures { λ r. ⌜ r ≡ unitKnown u ⌝ }
-{
-    match u {
-        SheetUnit::DevicePoints => unit_as(1, 0),
-        SheetUnit::Metres => unit_as(2, 0),
-        SheetUnit::Radians => unit_as(3, 0),
-        SheetUnit::Degrees => unit_as(4, 0),
-        SheetUnit::Unknown(b) => unit_as(5, b),
-    }
-}
-
 fn unit_row(u: UnitAnswer) -> SxfUnit
     ensures { λ r. ⌜ r ≡ unitRow u ⌝ }
 {
     match u {
-        UnitAnswer::Unit(x) => unit_known(x),
+        UnitAnswer::Unit(x) => units::unit_known(x),
         UnitAnswer::Refused(r) => SxfUnit {
             number: r.number as u64,
             place: r.place as u64,

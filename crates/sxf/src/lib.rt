@@ -4,8 +4,10 @@
 // Relied on: these two, and that the caller lends what its declaration says (a slice is a pointer and a length, a `&mut` one is lent to
 // this call alone). Promised: the contracts of the calls below, with the year as a number and `number` 0 for success; no call has a
 // `requires`, and two results that meet a contract are equal (proofs/Once.antt).
+pub mod coordinates;
 pub mod heads;
 pub mod records;
 pub mod sheets;
 pub mod tables;
+mod units;
 pub mod values;

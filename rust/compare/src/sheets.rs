@@ -2,7 +2,7 @@
 
 use crate::SETTING;
 use sxf::fields::{passport, Field, Rest};
-use sxf::{ElementKind, Head, Height, NewItem, NewPart, NewRecord, Number, Point, Reference, Unit, Writer};
+use sxf::{ElementKind, Head, Height, HeightUnit, NewItem, NewPart, NewRecord, Number, Point, Reference, Unit, Writer};
 
 #[derive(Clone, Debug)]
 pub struct Part {
@@ -89,7 +89,7 @@ impl Record {
     fn to_write(&self, number: usize, unit: Unit) -> NewRecord {
         let reference = self.reference();
         let planar = |value: f64| unit.coordinate(nearest(reference.planar(), value));
-        let height = |value: f64| reference.height().map(|kind| Height::new(nearest(kind, value)));
+        let height = |value: f64| reference.height().map(|kind| HeightUnit::Metres.height(nearest(kind, value)));
         let point = |&[x, y, h]: &[f64; 3]| Point { x: planar(x), y: planar(y), height: height(h) };
         let part = |part: &Part| NewPart::new(part.points.iter().map(point).collect()).text(part.text.clone());
         let item = |item: &Item| NewItem { code: item.code, kind: item.kind, scale: item.scale, bytes: item.value.clone() };

@@ -5,6 +5,9 @@
 //! also what the proved library's speed is measured against. For that it is
 //! written from document 01 alone (and the tables of document 000 that 01
 //! points to), and it shares no code and no table with the proved library.
+//! Of single elements and items asked for out of their sheets the documents
+//! say only what they stand for: how such a question is refused, and in which
+//! order, is taken from `include/sxf.h`.
 //!
 //! Nobody should link it, save the programs that compare and time the two: it
 //! has tests and no proof, and it follows the definition as one reader
@@ -18,6 +21,8 @@
 #![warn(missing_docs)]
 
 mod bytes;
+mod coordinate;
+mod floating;
 mod head;
 mod item;
 mod meanings;
@@ -33,6 +38,7 @@ mod years;
 #[cfg(test)]
 mod tests;
 
+pub use coordinate::{coordinate, Coordinate, Number};
 pub use head::Head;
 pub use meanings::{corners, unit, value, visibility, Unit, Value};
 pub use record::Record;

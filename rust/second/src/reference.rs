@@ -59,12 +59,16 @@ impl Reference {
         self.0[2] & 0x08 != 0
     }
 
+    /// Whether the record's planar elements are floating numbers.
+    pub(crate) fn is_floating(self) -> bool {
+        self.0[2] & 0x04 != 0
+    }
+
     /// How the record's points are stored.
     pub(crate) fn shape(self) -> Shape {
         let large = self.0[1] & 0x04 != 0;
         let three_dimensions = self.0[2] & 0x02 != 0;
-        let floating = self.0[2] & 0x04 != 0;
-        Shape::new(large, floating, three_dimensions)
+        Shape::new(large, self.is_floating(), three_dimensions)
     }
 
     /// The three bytes as one number, byte 20 lowest.

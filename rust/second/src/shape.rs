@@ -26,6 +26,16 @@ impl Shape {
         Shape { planar, height }
     }
 
+    /// Bytes of X, and of Y.
+    pub(crate) fn planar_width(self) -> usize {
+        usize::from(self.planar)
+    }
+
+    /// Bytes of a height, and 0 in two dimensions.
+    pub(crate) fn height_width(self) -> usize {
+        usize::from(self.height)
+    }
+
     /// Bytes of one point.
     pub(crate) fn point_bytes(self) -> u64 {
         2 * u64::from(self.planar) + u64::from(self.height)

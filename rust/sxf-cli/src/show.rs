@@ -28,6 +28,7 @@ fn head(sheet: &Sheet<'_>, head: &Head<'_>, out: &mut dyn Write) -> Result<(), F
     writeln!(out, "title              {}", quoted(head.title))?;
     writeln!(out, "scale              1:{}", head.scale)?;
     writeln!(out, "unit               {}", sheet.unit())?;
+    writeln!(out, "unit of heights    {}", sheet.height_unit())?;
     writeln!(out, "resolution         {}", head.resolution())?;
     writeln!(out, "accuracy           {}", head.accuracy())?;
     writeln!(out, "label coding       {}", head.label_coding())?;

@@ -281,6 +281,16 @@ fn one_record_is_shown() {
     assert!(told(&none).contains("refusal 16 ASK at 0 (0x0)"));
 }
 
+/// The head has both units, and a height is shown beside the coordinates of its point.
+#[test]
+fn heights_are_shown_with_a_unit_of_their_own() {
+    let shown = out(&on("show", &sample("heights"), &[]));
+    assert!(shown.contains("\nunit               device points\nunit of heights    metres\n"), "{shown}");
+    assert!(shown.contains("\n    1 2 height 1.0\n"), "{shown}");
+    let shown = out(&on("show", &sample("head"), &[]));
+    assert!(shown.contains("\nunit               degrees\nunit of heights    metres\n"), "{shown}");
+}
+
 #[test]
 fn years_tell_features_and_the_first_setting() {
     let expected = "2006 at 98 (0x62): accuracy not 0; met first by 1999 to 2004\n\

@@ -66,6 +66,21 @@ pub struct Unit {
     pub byte: u64,
 }
 
+/// `sxf_coordinate`: an element's unit, one of [`units`](crate::units), and the byte that names none; its width in bytes; which of
+/// [`kinds`](crate::kinds) it is; and the bits of the double that it stands for, or the stored ones of a NaN.
+#[repr(C)]
+#[derive(Clone, Copy, Debug, Default, PartialEq, Eq)]
+pub struct Coordinate {
+    pub number: u64,
+    pub place: u64,
+    pub year: u64,
+    pub unit: u64,
+    pub byte: u64,
+    pub width: u64,
+    pub kind: u64,
+    pub bits: u64,
+}
+
 /// `sxf_corners`: the eight plane corners as stored bits, and the place of the first that is a NaN, or 0.
 #[repr(C)]
 #[derive(Clone, Copy, Debug, Default, PartialEq, Eq)]
@@ -93,14 +108,15 @@ pub struct Visibility {
     pub upper: u64,
 }
 
-/// `sxf_value`: whole times ten to the power; `is_number` is 0 where the type has no such number.
+/// `sxf_value`: which of [`kinds`](crate::kinds) it is; the bits of a double or of a NaN; whole times ten to the power for a decimal.
 #[repr(C)]
 #[derive(Clone, Copy, Debug, Default, PartialEq, Eq)]
 pub struct Value {
     pub number: u64,
     pub place: u64,
     pub year: u64,
-    pub is_number: u64,
+    pub kind: u64,
+    pub bits: u64,
     pub whole: i64,
     pub power: i64,
 }
@@ -136,11 +152,13 @@ extern "C" {
 
     pub fn sxf_unit_of(sheet: *const u8, sheet_len: usize, year: u32) -> Unit;
 
+    pub fn sxf_coordinate_of(rest: *const Rest, reference: u32, dimension: u32, bits: u64) -> Coordinate;
+
     pub fn sxf_corners_of(sheet: *const u8, sheet_len: usize, year: u32) -> Corners;
 
     pub fn sxf_visibility_of(flags: u8, byte: u8) -> Visibility;
 
-    pub fn sxf_value_of(kind: u8, scale: u8, bits: u32) -> Value;
+    pub fn sxf_value_of(kind: u8, scale: u8, bits: u64) -> Value;
 
     pub fn sxf_write(
         year: u32,
@@ -189,9 +207,10 @@ mod tests {
         laid_out!(Record: number place year at total code in_group group reference generalisation word parts items points);
         laid_out!(Head: number place year date designation title designation2 scale);
         laid_out!(Unit: number place year unit byte);
+        laid_out!(Coordinate: number place year unit byte width kind bits);
         laid_out!(Corners: number place year nan_at sw_x sw_y nw_x nw_y ne_x ne_y se_x se_y);
         laid_out!(Visibility: set lower upper);
-        laid_out!(Value: number place year is_number whole power);
+        laid_out!(Value: number place year kind bits whole power);
         laid_out!(Written: number place year length);
     }
 }

@@ -63,6 +63,13 @@ pub fn unit_of(sheet: &[u8], year: u32) -> Unit {
     unsafe { sxf_unit_of(sheet.as_ptr(), sheet.len(), year) }
 }
 
+/// What an element of a point stands for, in its unit. The rest is the sheet's own, where its units stand; the dimension is one of
+/// [`dimensions`](crate::dimensions).
+pub fn coordinate_of(rest: &Rest, reference: u32, dimension: u32, bits: u64) -> Coordinate {
+    // SAFETY: the array has the length declared, and is lent for the call, which only reads it; every number has an answer.
+    unsafe { sxf_coordinate_of(rest, reference, dimension, bits) }
+}
+
 /// The eight plane corners.
 pub fn corners_of(sheet: &[u8], year: u32) -> Corners {
     // SAFETY: as `check`.
@@ -76,7 +83,7 @@ pub fn visibility_of(flags: u8, byte: u8) -> Visibility {
 }
 
 /// The number of an item of this type and scale byte, whose value is these bits.
-pub fn value_of(kind: u8, scale: u8, bits: u32) -> Value {
+pub fn value_of(kind: u8, scale: u8, bits: u64) -> Value {
     // SAFETY: it takes numbers alone, and every number has an answer.
     unsafe { sxf_value_of(kind, scale, bits) }
 }
@@ -130,14 +137,45 @@ pub fn write(year: u32, from: &Contents<'_>, out: &mut [u8]) -> Written {
 #[cfg(test)]
 mod tests {
     use super::*;
-    use crate::refusals::{OK, ROOM, SEMANTIC, SHORT};
+    use crate::dimensions::{HEIGHT, NORTH};
+    use crate::fields::passport::{in_rest, FLAGS, HEIGHT_UNIT, REST};
+    use crate::refusals::{ASK, OK, ROOM, SEMANTIC, SHORT, TABLE};
+    use crate::{kinds, row, units};
 
     #[test]
     fn document_01s_visibility_and_example_1() {
         assert_eq!(visibility_of(3, 0x24), Visibility { set: 1, lower: 10_000, upper: 10_000_000 });
         assert_eq!(visibility_of(3, 0xFF), Visibility::default());
-        assert_eq!(value_of(2, 0xFF, 0x04F9), Value { is_number: 1, whole: 1273, power: -1, ..Value::default() });
+        assert_eq!(value_of(2, 0xFF, 0x04F9), Value { kind: kinds::DECIMAL, whole: 1273, power: -1, ..Value::default() });
         assert_eq!(value_of(2, 0x80, 0).number, SEMANTIC);
+        let (double, nan) = (0x3FF0_0000_0000_0000, 0x7FF0_0000_0000_0001);
+        assert_eq!(value_of(8, 0x80, double), Value { kind: kinds::DOUBLE, bits: double, ..Value::default() });
+        assert_eq!(value_of(8, 0, nan), Value { kind: kinds::NAN, bits: nan, ..Value::default() });
+        assert_eq!(value_of(126, 0, double), Value::default());
+    }
+
+    #[test]
+    fn elements_are_told_in_the_units_of_the_rest() {
+        let mut rest = [0; REST.width];
+        rest[in_rest(FLAGS).place] = 0x1B;
+        rest[in_rest(HEIGHT_UNIT).place] = 9;
+        let (long, high) = (1 << 10, 1 << 17);
+        let due =
+            Coordinate { unit: units::METRES, width: 4, kind: kinds::WHOLE, bits: (-1f64).to_bits(), ..Coordinate::default() };
+        assert_eq!(coordinate_of(&rest, long, NORTH, 0xFFFF_FFFF), due);
+        let due = Coordinate {
+            unit: units::UNKNOWN_UNIT,
+            byte: 9,
+            width: 4,
+            kind: kinds::SINGLE,
+            bits: 1f64.to_bits(),
+            ..Coordinate::default()
+        };
+        assert_eq!(coordinate_of(&rest, high, HEIGHT, 0x3F80_0000), due);
+        let refused = |number, place| Coordinate { number, place, ..Coordinate::default() };
+        assert_eq!(coordinate_of(&rest, long, HEIGHT, 0), refused(ASK, 0));
+        assert_eq!(coordinate_of(&rest, 0, NORTH, 0x1_0000), refused(TABLE, 0));
+        assert_eq!(coordinate_of(&rest, 1 << 24, NORTH, 0), refused(TABLE, row::REFERENCE as u64));
     }
 
     #[test]

@@ -9,7 +9,9 @@
 //! | [`calls`] | the calls and the structs that they answer, as the header declares them |
 //! | [`lent`] | the same calls for slices that are lent: the one module with unsafe code |
 //! | [`refusals`] | the sixteen refusals |
-//! | [`units`] | the units that `sxf_unit_of` answers |
+//! | [`units`] | the units that `sxf_unit_of` and `sxf_coordinate_of` answer |
+//! | [`dimensions`] | the numbers of a point that `sxf_coordinate_of` is asked for |
+//! | [`kinds`] | what `sxf_coordinate_of` and `sxf_value_of` say that a number is |
 //! | [`years`] | the nine settings, and the year of each feature |
 //! | [`fields`] | where the fields of a sheet stand, and how wide they are; the limit |
 //! | [`row`] | which number of the record table has which index |
@@ -19,7 +21,9 @@
 #![deny(unsafe_op_in_unsafe_fn)]
 
 pub mod calls;
+pub mod dimensions;
 pub mod fields;
+pub mod kinds;
 // The one module that may: it calls the archive.
 #[allow(unsafe_code)]
 pub mod lent;
@@ -29,7 +33,7 @@ pub mod row;
 pub mod units;
 pub mod years;
 
-pub use calls::{Checked, Corners, Head, Record, Unit, Value, Visibility, Written};
+pub use calls::{Checked, Coordinate, Corners, Head, Record, Unit, Value, Visibility, Written};
 pub use fields::{Carried, Field, Rest, LIMIT};
 
 /// "Points 65535 is a mark: the count is the word at +24" (01, Record).

@@ -1,4 +1,4 @@
-//! The units that `sxf_unit_of` answers.
+//! The units that `sxf_unit_of` and `sxf_coordinate_of` answer. A height is in metres or of unknown unit, by the byte at +237.
 
 /// The sheet is not real: points of the device.
 pub const DEVICE_POINTS: u64 = 1;

@@ -1,7 +1,7 @@
 //! Holds what this crate declares against `include/sxf.h`: each number, and each struct and call with the names, the order and the types of
 //! its fields and parameters.
 use sxf_sys::fields::{descriptor, passport, START};
-use sxf_sys::{refusals, units, Carried, Rest, LIMIT};
+use sxf_sys::{dimensions, kinds, refusals, units, Carried, Rest, LIMIT};
 
 const HEADER: &str = include_str!("../../../include/sxf.h");
 const CALLS: &str = include_str!("../src/calls.rs");
@@ -60,6 +60,15 @@ fn numbers_are_the_headers() {
         ("SXF_RADIANS", units::RADIANS),
         ("SXF_DEGREES", units::DEGREES),
         ("SXF_UNKNOWN_UNIT", units::UNKNOWN_UNIT),
+        ("SXF_NORTH", dimensions::NORTH.into()),
+        ("SXF_EAST", dimensions::EAST.into()),
+        ("SXF_HEIGHT", dimensions::HEIGHT.into()),
+        ("SXF_NO_NUMBER", kinds::NO_NUMBER),
+        ("SXF_WHOLE", kinds::WHOLE),
+        ("SXF_SINGLE", kinds::SINGLE),
+        ("SXF_DOUBLE", kinds::DOUBLE),
+        ("SXF_NAN", kinds::NAN),
+        ("SXF_DECIMAL", kinds::DECIMAL),
     ];
     assert_eq!(numbers(&without_comments(HEADER)), ours.map(|(name, number)| (name.to_string(), number)));
 }
@@ -138,6 +147,6 @@ fn structs_and_calls_are_the_headers() {
     for each in structs.iter().chain(&calls) {
         assert!(declared.contains(each), "not declared so: {each}");
     }
-    assert_eq!((structs.len(), declared.matches("pubstruct").count()), (8, 8));
-    assert_eq!((calls.len(), declared.matches("pubfn").count()), (9, 9));
+    assert_eq!((structs.len(), declared.matches("pubstruct").count()), (9, 9));
+    assert_eq!((calls.len(), declared.matches("pubfn").count()), (10, 10));
 }

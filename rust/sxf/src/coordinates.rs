@@ -1,5 +1,24 @@
 //! Numbers as stored, and coordinates, each unit a type of its own: a coordinate in device points never stands for one in metres.
+//!
+//! What a stored element stands for, and in which unit, is the library's answer, from the sheet's own bytes: a coordinate or a height that is
+//! read gets no other. A unit is named only for what is to be written ([`Unit::coordinate`], [`HeightUnit::height`]), and then it must be the
+//! sheet's.
+//!
+//! ```
+//! use sxf::{Coordinate, HeightUnit, Number, Setting, Sheet};
+//! # let bytes = include_bytes!("../../../samples/heights.sxf");
+//! let sheet = Sheet::read(bytes, Setting::Y2017)?;
+//! let point = sheet.record(0)?.parts().next().and_then(|part| part.points().next()).expect("a point");
+//! assert!(matches!(point.x, Coordinate::DevicePoints(x) if x.number() == Number::Whole(1)));
+//! assert!(point.x.metres().is_none());
+//! let height = point.height.expect("a height");
+//! assert_eq!((height.unit(), height.number()), (HeightUnit::Metres, Number::Single(1.0)));
+//! # Ok::<(), sxf::Refusal>(())
+//! ```
+use crate::refusal::low8;
 use std::fmt;
+use sxf_sys::fields::passport;
+use sxf_sys::{dimensions, kinds, lent, reference, refusals, units, Rest};
 
 /// The unit of a sheet's coordinates.
 #[derive(Clone, Copy, Debug, PartialEq, Eq, Hash)]
@@ -17,7 +36,19 @@ pub enum Unit {
 }
 
 impl Unit {
-    /// A number in this unit: the one way to make a coordinate in a known unit.
+    /// A unit as the library answers it.
+    pub(crate) fn of(unit: u64, byte: u64) -> Unit {
+        match unit {
+            units::DEVICE_POINTS => Unit::DevicePoints,
+            units::METRES => Unit::Metres,
+            units::RADIANS => Unit::Radians,
+            units::DEGREES => Unit::Degrees,
+            _ => Unit::Unknown(low8(byte)),
+        }
+    }
+
+    /// A number in this unit, for a point that is to be written. [`Writer::push`](crate::Writer::push) takes it only where this is the
+    /// sheet's unit. A coordinate that is read is not made here: it comes from its sheet.
     ///
     /// ```
     /// use sxf::{Number, Unit};
@@ -75,7 +106,7 @@ units! {
     Degrees
 }
 
-/// A coordinate in the sheet's unit. One in a known unit is made by [`Unit::coordinate`] alone.
+/// A coordinate in the sheet's unit. One in a known unit is read from a sheet, or made by [`Unit::coordinate`] to be written.
 #[derive(Clone, Copy, Debug, PartialEq)]
 pub enum Coordinate {
     /// In device points.
@@ -146,19 +177,105 @@ impl Coordinate {
     }
 }
 
-/// A height. It is not in the unit of the plane: its own unit stands at +237 of the passport (0 for metres), which is carried as stored.
-#[derive(Clone, Copy, Debug, PartialEq)]
-pub struct Height(Number);
+/// The unit of a sheet's heights, whatever that of its plane is.
+#[derive(Clone, Copy, Debug, PartialEq, Eq, Hash)]
+pub enum HeightUnit {
+    /// Heights in metres.
+    Metres,
+    /// Heights of unknown unit, with the byte at +237 that says so.
+    Unknown(u8),
+}
 
-impl Height {
-    /// A height is always floating, so a number that is whole has no place in a sheet, and is refused when it is written.
-    pub fn new(number: Number) -> Height {
-        Height(number)
+impl HeightUnit {
+    /// A unit as the library answers it for a height.
+    fn of(unit: u64, byte: u64) -> HeightUnit {
+        match unit {
+            units::METRES => HeightUnit::Metres,
+            _ => HeightUnit::Unknown(low8(byte)),
+        }
     }
 
-    /// Its number.
-    pub fn number(self) -> Number {
+    /// The unit of heights in a sheet of this rest: that of a height of zero.
+    pub(crate) fn of_rest(rest: &Rest) -> HeightUnit {
+        let answer = lent::coordinate_of(rest, reference::THREE_DIMENSIONS as u32, dimensions::HEIGHT, 0);
+        HeightUnit::of(answer.unit, answer.byte)
+    }
+
+    /// A height in this unit, for a point that is to be written. [`Writer::push`](crate::Writer::push) takes it only where this is the unit
+    /// of the sheet's heights. A height is always floating, so a number that is whole has no place in a sheet, and is refused there too.
+    ///
+    /// ```
+    /// use sxf::{HeightUnit, Number};
+    /// let height = HeightUnit::Metres.height(Number::Single(127.5));
+    /// assert_eq!((height.unit(), height.number()), (HeightUnit::Metres, Number::Single(127.5)));
+    /// ```
+    pub fn height(self, number: Number) -> Height {
+        Height(self, number)
+    }
+}
+
+impl fmt::Display for HeightUnit {
+    fn fmt(&self, f: &mut fmt::Formatter<'_>) -> fmt::Result {
+        match self {
+            HeightUnit::Metres => f.write_str("metres"),
+            HeightUnit::Unknown(byte) => write!(f, "unknown unit {byte}"),
+        }
+    }
+}
+
+/// A height. It is never in the unit of the plane: its own unit stands at +237 of the passport.
+#[derive(Clone, Copy, Debug, PartialEq)]
+pub struct Height(HeightUnit, Number);
+
+impl Height {
+    /// Its unit.
+    pub fn unit(self) -> HeightUnit {
         self.0
+    }
+
+    /// Its number, without the unit.
+    pub fn number(self) -> Number {
+        self.1
+    }
+}
+
+/// Where the elements of a record's points are told from: its sheet's rest and its own reference number. A unit is not asked for.
+#[derive(Clone, Copy, Debug)]
+pub(crate) struct Elements<'a> {
+    rest: &'a Rest,
+    reference: u32,
+}
+
+impl<'a> Elements<'a> {
+    pub fn of(rest: &'a Rest, reference: u32) -> Elements<'a> {
+        Elements { rest, reference }
+    }
+
+    /// The library's answer; none where it refuses, which it does for no element of a sheet.
+    fn answer(self, dimension: u32, bits: u64) -> Option<sxf_sys::Coordinate> {
+        let answer = lent::coordinate_of(self.rest, self.reference, dimension, bits);
+        (answer.number == refusals::OK).then_some(answer)
+    }
+
+    fn planar(self, dimension: u32, bits: u64) -> Option<Coordinate> {
+        let answer = self.answer(dimension, bits)?;
+        Some(Unit::of(answer.unit, answer.byte).coordinate(Number::of(&answer)?))
+    }
+
+    /// The coordinate X that stored bits are.
+    pub fn north(self, bits: u64) -> Option<Coordinate> {
+        self.planar(dimensions::NORTH, bits)
+    }
+
+    /// The coordinate Y that stored bits are.
+    pub fn east(self, bits: u64) -> Option<Coordinate> {
+        self.planar(dimensions::EAST, bits)
+    }
+
+    /// The height that stored bits are; none in two dimensions.
+    pub fn height(self, bits: u64) -> Option<Height> {
+        let answer = self.answer(dimensions::HEIGHT, bits)?;
+        Some(Height(HeightUnit::of(answer.unit, answer.byte), Number::of(&answer)?))
     }
 }
 
@@ -187,13 +304,19 @@ impl Number {
         }
     }
 
-    fn of_single(bits: u32) -> Number {
-        match f32::from_bits(bits) {
-            n if n.is_nan() => Number::NotNumber(u64::from(bits)),
-            n => Number::Single(n),
+    /// What the library says that an element is. Its double is exact: that of an integer is an integer, that of a single a single.
+    fn of(answer: &sxf_sys::Coordinate) -> Option<Number> {
+        let double = f64::from_bits(answer.bits);
+        match answer.kind {
+            kinds::WHOLE => Some(Number::Whole(double as i64)),
+            kinds::SINGLE => Some(Number::Single(double as f32)),
+            kinds::DOUBLE => Some(Number::Double(double)),
+            kinds::NAN => Some(Number::NotNumber(answer.bits)),
+            _ => None,
         }
     }
 
+    /// A double of the head, which is no element.
     pub(crate) fn of_double(bits: u64) -> Number {
         match f64::from_bits(bits) {
             n if n.is_nan() => Number::NotNumber(bits),
@@ -227,7 +350,33 @@ pub enum ElementKind {
     Double,
 }
 
+/// A rest for questions whose answers do not depend on it: the units stand there, and nothing of how an element is stored.
+static ANY_REST: Rest = [0; passport::REST.width];
+
 impl ElementKind {
+    /// How the elements of a dimension are stored in a record of this reference number; none for a height in two dimensions. It is the kind
+    /// and the width of the library's answer for the bits 0, which every element holds and which are no NaN. Any rest has the same answer.
+    pub(crate) fn of_dimension(reference: u32, dimension: u32) -> Option<ElementKind> {
+        let answer = Elements::of(&ANY_REST, reference).answer(dimension, 0)?;
+        match (answer.kind, answer.width) {
+            (kinds::WHOLE, 2) => Some(ElementKind::Short),
+            (kinds::WHOLE, 4) => Some(ElementKind::Long),
+            (kinds::SINGLE, 4) => Some(ElementKind::Single),
+            (kinds::DOUBLE, 8) => Some(ElementKind::Double),
+            _ => None,
+        }
+    }
+
+    /// The reference bits of a record whose planar elements are of this kind.
+    fn reference(self) -> u64 {
+        match self {
+            ElementKind::Short => 0,
+            ElementKind::Long => reference::ELEMENT_SIZE,
+            ElementKind::Single => reference::FLOATING,
+            ElementKind::Double => reference::FLOATING | reference::ELEMENT_SIZE,
+        }
+    }
+
     /// How many bytes it has.
     pub fn width(self) -> usize {
         match self {
@@ -237,14 +386,9 @@ impl ElementKind {
         }
     }
 
-    /// What stored bits stand for; none where they are too wide for this kind.
+    /// What stored bits stand for, as the library answers it; none where they are too wide for this kind. Any rest has the same number.
     pub fn number(self, bits: u64) -> Option<Number> {
-        match self {
-            ElementKind::Short => u16::try_from(bits).ok().map(|b| Number::Whole(i64::from(b))),
-            ElementKind::Long => u32::try_from(bits).ok().map(|b| Number::Whole(i64::from(b as i32))),
-            ElementKind::Single => u32::try_from(bits).ok().map(Number::of_single),
-            ElementKind::Double => Some(Number::of_double(bits)),
-        }
+        Number::of(&Elements::of(&ANY_REST, self.reference() as u32).answer(dimensions::NORTH, bits)?)
     }
 
     /// The bits that stand for a number; none where this kind has no such number. Nothing is rounded.
@@ -288,6 +432,35 @@ mod tests {
             assert_eq!(kind.number(bits), Some(number));
             assert_eq!(kind.bits(number), Some(bits));
         }
+    }
+
+    /// Each kind is that of its own reference bits, so that both ways of asking for a number are the same.
+    #[test]
+    fn a_kind_is_that_of_its_reference() {
+        for kind in [ElementKind::Short, ElementKind::Long, ElementKind::Single, ElementKind::Double] {
+            let reference = kind.reference() as u32;
+            assert_eq!(ElementKind::of_dimension(reference, dimensions::NORTH), Some(kind));
+            assert_eq!(ElementKind::of_dimension(reference, dimensions::EAST), Some(kind));
+            assert_eq!(ElementKind::of_dimension(reference, dimensions::HEIGHT), None);
+            let answer = Elements::of(&ANY_REST, reference).answer(dimensions::NORTH, 0).expect("an answer");
+            assert_eq!(answer.width, kind.width() as u64);
+        }
+    }
+
+    /// The plane is in degrees and heights are of unknown unit: neither has the other's.
+    #[test]
+    fn plane_and_height_are_each_in_their_own_unit() {
+        let mut rest = ANY_REST;
+        rest[passport::in_rest(passport::FLAGS).place] = 0x1B;
+        rest[passport::in_rest(passport::UNIT).place] = 65;
+        rest[passport::in_rest(passport::HEIGHT_UNIT).place] = 64;
+        let space = Elements::of(&rest, reference::THREE_DIMENSIONS as u32);
+        assert_eq!(space.north(65535), Some(Unit::Degrees.coordinate(Number::Whole(65535))));
+        assert_eq!(space.east(0), Some(Unit::Degrees.coordinate(Number::Whole(0))));
+        assert_eq!(space.height(0x8000_0001), Some(HeightUnit::Unknown(64).height(Number::Single(f32::from_bits(0x8000_0001)))));
+        assert_eq!(HeightUnit::of_rest(&rest), HeightUnit::Unknown(64));
+        assert_eq!((space.north(65536), space.height(1 << 32)), (None, None));
+        assert_eq!(Elements::of(&rest, 0).height(0), None);
     }
 
     #[test]

@@ -3,7 +3,7 @@ use crate::coordinates::Number;
 use crate::table::Row;
 use std::fmt;
 use sxf_sys::row::{self, ITEM_WIDTH};
-use sxf_sys::{lent, refusals};
+use sxf_sys::{kinds, lent, refusals};
 
 /// How a text's bytes are coded.
 #[derive(Clone, Copy, Debug, PartialEq, Eq, Hash)]
@@ -102,8 +102,7 @@ impl<'a> Item<'a> {
             0 => self.text(Coding::Dos, 1),
             126 => self.text(Coding::Windows, 1),
             127 | 128 => self.text(Coding::Utf16, 2),
-            8 => self.bytes.try_into().ok().map(|bytes| Value::Double(Number::of_double(u64::from_le_bytes(bytes)))),
-            _ => self.decimal(),
+            _ => self.number(),
         };
         value.unwrap_or(Value::Unread)
     }
@@ -113,16 +112,22 @@ impl<'a> Item<'a> {
         Some(Value::Text(Text { coding, bytes }))
     }
 
-    /// The number of a value of type 1, 2 or 4. Which types have one is the library's answer, and so is what it is.
-    fn decimal(&self) -> Option<Value<'a>> {
+    /// The number of a value of type 1, 2, 4 or 8. Which types have one is the library's answer, and so is what it is. A type with a number
+    /// is how many bytes the value has.
+    fn number(&self) -> Option<Value<'a>> {
         if self.bytes.len() != usize::from(self.kind) {
             return None;
         }
-        let mut bits = [0; 4];
+        let mut bits = [0; 8];
         bits.get_mut(..self.bytes.len())?.copy_from_slice(self.bytes);
-        let answer = lent::value_of(self.kind, self.scale, u32::from_le_bytes(bits));
-        let known = answer.number == refusals::OK && answer.is_number != 0;
-        known.then_some(Value::Decimal { whole: answer.whole, power: answer.power })
+        let answer = lent::value_of(self.kind, self.scale, u64::from_le_bytes(bits));
+        match answer.kind {
+            _ if answer.number != refusals::OK => None,
+            kinds::DECIMAL => Some(Value::Decimal { whole: answer.whole, power: answer.power }),
+            kinds::DOUBLE => Some(Value::Double(Number::Double(f64::from_bits(answer.bits)))),
+            kinds::NAN => Some(Value::Double(Number::NotNumber(answer.bits))),
+            _ => None,
+        }
     }
 }
 
@@ -182,6 +187,8 @@ mod tests {
         assert_eq!(value(1, 0, &[0xFF]), Value::Decimal { whole: -1, power: 0 });
         assert_eq!(value(4, 2, &[1, 2, 3, 4]), Value::Decimal { whole: 0x0403_0201, power: 2 });
         assert_eq!(value(8, 0x80, &[0, 0, 0, 0, 0, 0, 0xF0, 0x3F]), Value::Double(Number::Double(1.0)));
+        let nan = 0xFFF0_0000_0000_0001_u64;
+        assert_eq!(value(8, 0, &nan.to_le_bytes()), Value::Double(Number::NotNumber(nan)));
     }
 
     #[test]

@@ -32,10 +32,10 @@
 //! # What is proved, and what is tried
 //!
 //! Proved are the library's answers: what is accepted and refused, with number, place and year; sum, count and sizes; the record table; a
-//! record asked for by number; the lengths of the head's texts; unit, corners, visibility, and the numbers of items; the bytes written. This
-//! crate hands them on. Its own, which tests hold and no proof, are the walk over the table that was unfolded, a record's place in that walk,
-//! what an element's bits stand for, the fields that [`Head`] reads out of its rest and its carried bytes, the room for writing, and the names
-//! of features.
+//! record asked for by number; the lengths of the head's texts; unit, corners, visibility; what an element's bits stand for, and in which unit;
+//! the numbers of items; the bytes written. This crate hands them on. Its own, which tests hold and no proof, are the walk over the table that
+//! was unfolded, a record's place in that walk, the bits of a number that is to be written, the fields that [`Head`] reads out of its rest and
+//! its carried bytes, the room for writing, and the names of features.
 //!
 //! Nothing here panics on what a sheet or a table holds. That an accepted sheet's table is well formed is the library's promise; what goes
 //! against it would end an iteration early, and for good.
@@ -56,7 +56,7 @@ pub mod visibility;
 pub mod writer;
 pub mod years;
 
-pub use coordinates::{Coordinate, Degrees, DevicePoints, ElementKind, Height, Metres, Number, Radians, Unit};
+pub use coordinates::{Coordinate, Degrees, DevicePoints, ElementKind, Height, HeightUnit, Metres, Number, Radians, Unit};
 pub use head::{Corners, Head};
 pub use item::{Coding, Item, Text, Value};
 pub use part::{Part, Point};

@@ -1,23 +1,38 @@
 //! Parts of a record: the object itself, then its subobjects.
-use crate::coordinates::{Coordinate, ElementKind, Height, Unit};
+use crate::coordinates::{Coordinate, Elements, Height};
 use crate::item::{Coding, Text};
 use crate::table::Row;
 use crate::Reference;
 use sxf_sys::row::{self, PART_WIDTH};
+use sxf_sys::Rest;
 
 /// A part: its points, and its text where the record has text in its metric.
 #[derive(Clone, Copy, Debug)]
 pub struct Part<'a> {
     reference: Reference,
-    unit: Unit,
+    rest: &'a Rest,
     elements: &'a [u64],
     text: Option<Text<'a>>,
 }
 
 impl<'a> Part<'a> {
-    /// The points, with typed coordinates.
+    /// The points, with typed coordinates: what each element stands for and its unit are the library's answer, from the sheet.
+    ///
+    /// ```
+    /// use sxf::{HeightUnit, Number, Setting, Sheet, Unit};
+    /// # let bytes = include_bytes!("../../../samples/heights.sxf");
+    /// let sheet = Sheet::read(bytes, Setting::Y2017)?;
+    /// for record in sheet.records() {
+    ///     for point in record.parts().flat_map(|part| part.points()) {
+    ///         assert_eq!((point.x.unit(), point.y.unit()), (Unit::DevicePoints, Unit::DevicePoints));
+    ///         assert_eq!(point.height.map(|height| height.unit()), Some(HeightUnit::Metres));
+    ///     }
+    /// }
+    /// # Ok::<(), sxf::Refusal>(())
+    /// ```
     pub fn points(&self) -> Points<'a> {
-        Points { planar: self.reference.planar(), height: self.reference.height(), unit: self.unit, elements: self.elements }
+        let told = Elements::of(self.rest, self.reference.0);
+        Points { told, of_a_point: self.reference.elements(), elements: self.elements }
     }
 
     /// The stored bits of all its elements, two or three to a point.
@@ -45,25 +60,20 @@ pub struct Point {
 /// The points of a part.
 #[derive(Clone, Copy, Debug)]
 pub struct Points<'a> {
-    planar: ElementKind,
-    height: Option<ElementKind>,
-    unit: Unit,
+    told: Elements<'a>,
+    /// How many elements a point has.
+    of_a_point: usize,
     elements: &'a [u64],
 }
 
 impl Points<'_> {
-    fn elements_of_a_point(&self) -> usize {
-        2 + usize::from(self.height.is_some())
-    }
-
     fn point(&self, elements: &[u64]) -> Option<Point> {
         let (&[x, y], height) = elements.split_first_chunk()?;
-        let planar = |bits| Some(self.unit.coordinate(self.planar.number(bits)?));
-        let height = match (self.height, height) {
-            (Some(kind), [bits]) => Some(Height::new(kind.number(*bits)?)),
-            _ => None,
+        let height = match height {
+            [] => None,
+            &[bits, ..] => Some(self.told.height(bits)?),
         };
-        Some(Point { x: planar(x)?, y: planar(y)?, height })
+        Some(Point { x: self.told.north(x)?, y: self.told.east(y)?, height })
     }
 }
 
@@ -71,7 +81,7 @@ impl Iterator for Points<'_> {
     type Item = Point;
 
     fn next(&mut self) -> Option<Point> {
-        let (point, rest) = self.elements.split_at_checked(self.elements_of_a_point())?;
+        let (point, rest) = self.elements.split_at_checked(self.of_a_point)?;
         let point = self.point(point);
         // Elements that are no point end the iteration for good.
         self.elements = if point.is_some() { rest } else { &[] };
@@ -79,7 +89,7 @@ impl Iterator for Points<'_> {
     }
 
     fn size_hint(&self) -> (usize, Option<usize>) {
-        let points = self.elements.len() / self.elements_of_a_point();
+        let points = self.elements.len() / self.of_a_point;
         (points, Some(points))
     }
 }
@@ -90,7 +100,7 @@ impl ExactSizeIterator for Points<'_> {}
 #[derive(Clone, Copy, Debug)]
 pub struct Parts<'a> {
     reference: Reference,
-    unit: Unit,
+    rest: &'a Rest,
     coding: Coding,
     numbers: &'a [[u64; PART_WIDTH]],
     elements: &'a [u64],
@@ -98,10 +108,10 @@ pub struct Parts<'a> {
 }
 
 impl<'a> Parts<'a> {
-    pub(crate) fn of(row: &Row<'a>, unit: Unit, labels: Coding) -> Parts<'a> {
+    pub(crate) fn of(row: &Row<'a>, rest: &'a Rest, labels: Coding) -> Parts<'a> {
         let reference = row.reference();
         let coding = if reference.unicode() { Coding::Utf16 } else { labels };
-        Parts { reference, unit, coding, numbers: row.parts, elements: row.elements, texts: row.texts }
+        Parts { reference, rest, coding, numbers: row.parts, elements: row.elements, texts: row.texts }
     }
 }
 
@@ -116,6 +126,6 @@ impl<'a> Iterator for Parts<'a> {
         let (text, texts) = self.texts.split_at_checked(usize::try_from(text_length).ok()?)?;
         (self.numbers, self.elements, self.texts) = (numbers, elements_rest, texts);
         let text = self.reference.text_in_metric().then_some(Text { coding: self.coding, bytes: text });
-        Some(Part { reference: self.reference, unit: self.unit, elements, text })
+        Some(Part { reference: self.reference, rest: self.rest, elements, text })
     }
 }

@@ -1,12 +1,11 @@
 //! Records of a sheet.
-use crate::coordinates::Unit;
 use crate::item::{Coding, Items};
 use crate::part::Parts;
-use crate::refusal::low32;
+use crate::refusal::{low16, low32, low8};
 use crate::table::{Row, Rows};
 use crate::{Reference, Visibility};
 use sxf_sys::fields::{header, START};
-use sxf_sys::row;
+use sxf_sys::{row, Rest};
 
 /// One record, as the library answers it when asked by number.
 #[derive(Clone, Copy, Debug, PartialEq, Eq)]
@@ -35,15 +34,6 @@ pub struct RecordAt {
     pub points: u32,
 }
 
-/// Numbers of 16 and 8 bits are answered as 64; one that does not fit would go against the library's contract.
-fn low16(number: u64) -> u16 {
-    u16::try_from(number).unwrap_or(u16::MAX)
-}
-
-fn low8(number: u64) -> u8 {
-    u8::try_from(number).unwrap_or(u8::MAX)
-}
-
 impl RecordAt {
     pub(crate) fn of(answer: &sxf_sys::Record) -> RecordAt {
         RecordAt {
@@ -64,8 +54,8 @@ impl RecordAt {
 
 /// What of a sheet's head its records need.
 #[derive(Clone, Copy, Debug)]
-pub(crate) struct Common {
-    pub unit: Unit,
+pub(crate) struct Common<'a> {
+    pub rest: &'a Rest,
     pub flags: u8,
     pub labels: Coding,
 }
@@ -76,7 +66,7 @@ pub struct Record<'a> {
     number: usize,
     place: usize,
     total: usize,
-    common: Common,
+    common: Common<'a>,
     row: Row<'a>,
 }
 
@@ -143,7 +133,7 @@ impl<'a> Record<'a> {
 
     /// Its parts: the object itself, then its subobjects.
     pub fn parts(&self) -> Parts<'a> {
-        Parts::of(&self.row, self.common.unit, self.common.labels)
+        Parts::of(&self.row, self.common.rest, self.common.labels)
     }
 
     /// Its semantic items.
@@ -156,14 +146,14 @@ impl<'a> Record<'a> {
 #[derive(Clone, Copy, Debug)]
 pub struct Records<'a> {
     sheet: &'a [u8],
-    common: Common,
+    common: Common<'a>,
     rows: Rows<'a>,
     number: usize,
     place: usize,
 }
 
 impl<'a> Records<'a> {
-    pub(crate) fn of(sheet: &'a [u8], common: Common, rows: Rows<'a>) -> Records<'a> {
+    pub(crate) fn of(sheet: &'a [u8], common: Common<'a>, rows: Rows<'a>) -> Records<'a> {
         Records { sheet, common, rows, number: 0, place: START }
     }
 }

@@ -1,7 +1,7 @@
 //! The three reference bytes of a record, bytes 20 to 22, as one number with byte 20 lowest.
 use crate::ElementKind;
 use std::fmt;
-use sxf_sys::reference;
+use sxf_sys::{dimensions, reference};
 
 /// The reference bytes.
 ///
@@ -133,28 +133,26 @@ impl Reference {
         (self.0 & reference::SPLINE as u32) >> reference::SPLINE.trailing_zeros()
     }
 
+    /// How the elements of a dimension are stored, as the library answers it. A number over three bytes is none of a sheet's, and is refused
+    /// when it is written; its low three bytes are asked for.
+    fn kind(self, dimension: u32) -> Option<ElementKind> {
+        ElementKind::of_dimension(self.0 & 0x00FF_FFFF, dimension)
+    }
+
     /// How a planar element is stored.
     pub fn planar(self) -> ElementKind {
-        match (self.floating(), self.element_size()) {
-            (false, false) => ElementKind::Short,
-            (false, true) => ElementKind::Long,
-            (true, false) => ElementKind::Single,
-            (true, true) => ElementKind::Double,
-        }
+        // A planar element has an answer for every three bytes; that it had none would go against the library's contract.
+        self.kind(dimensions::NORTH).unwrap_or(ElementKind::Short)
     }
 
     /// How a height is stored, in three dimensions: 8 bytes where planar elements are 8, else 4.
     pub fn height(self) -> Option<ElementKind> {
-        match (self.three_dimensions(), self.planar()) {
-            (false, _) => None,
-            (true, ElementKind::Double) => Some(ElementKind::Double),
-            (true, _) => Some(ElementKind::Single),
-        }
+        self.kind(dimensions::HEIGHT)
     }
 
     /// How many elements a point has: 2 or 3.
     pub fn elements(self) -> usize {
-        2 + usize::from(self.three_dimensions())
+        2 + usize::from(self.height().is_some())
     }
 
     /// How many bytes a point has.
@@ -175,6 +173,20 @@ mod tests {
         };
         assert_eq!(sizes(0), [4, 8, 8, 16]);
         assert_eq!(sizes(Reference::THREE_DIMENSIONS), [8, 12, 12, 24]);
+    }
+
+    /// Every combination of the bits of bytes 21 and 22: only three of them say how elements are stored, whatever stands over byte 22.
+    #[test]
+    fn three_bits_say_how_elements_are_stored() {
+        for bits in 0..=0xFFFF_u32 {
+            let reference = Reference(bits << 8 | bits << 24 | 2);
+            let large = matches!(reference.planar(), ElementKind::Long | ElementKind::Double);
+            let floating = matches!(reference.planar(), ElementKind::Single | ElementKind::Double);
+            assert_eq!((large, floating), (reference.element_size(), reference.floating()), "{bits:#x}");
+            assert_eq!(reference.height().is_some(), reference.three_dimensions(), "{bits:#x}");
+            assert_eq!(reference.height() == Some(ElementKind::Double), reference.three_dimensions() && large && floating);
+            assert_eq!(reference.elements(), 2 + usize::from(reference.three_dimensions()));
+        }
     }
 
     #[test]

@@ -81,9 +81,17 @@ impl Refusal {
     pub(crate) const NO_SUCH: Refusal = Refusal { number: Refusal::ASK, place: 0, year: 0 };
 }
 
-/// Numbers of 32 bits are answered as 64; one that does not fit would go against the library's contract.
+/// Numbers of 32 bits and fewer are answered as 64; one that does not fit would go against the library's contract.
 pub(crate) fn low32(number: u64) -> u32 {
     u32::try_from(number).unwrap_or(u32::MAX)
+}
+
+pub(crate) fn low16(number: u64) -> u16 {
+    u16::try_from(number).unwrap_or(u16::MAX)
+}
+
+pub(crate) fn low8(number: u64) -> u8 {
+    u8::try_from(number).unwrap_or(u8::MAX)
 }
 
 impl fmt::Display for Refusal {

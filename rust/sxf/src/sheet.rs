@@ -1,5 +1,5 @@
 //! A sheet is checked, read, and asked.
-use crate::coordinates::Unit;
+use crate::coordinates::{HeightUnit, Unit};
 use crate::head::{Corners, Head};
 use crate::item::Coding;
 use crate::record::{Common, Record, RecordAt, Records};
@@ -7,7 +7,7 @@ use crate::refusal::low32;
 use crate::table::{Table, TableRef};
 use crate::{Refusal, Setting};
 use sxf_sys::fields::passport;
-use sxf_sys::{lent, units, Field};
+use sxf_sys::{lent, Field, Rest};
 
 /// What an accepted sheet has: its sum, its count of records, and the lengths of the three outputs of unfolding it.
 #[derive(Clone, Copy, Debug, PartialEq, Eq)]
@@ -62,13 +62,13 @@ pub fn record_at(sheet: &[u8], setting: Setting, number: u64) -> Result<RecordAt
 fn unit_of(sheet: &[u8], setting: Setting) -> Result<Unit, Refusal> {
     let answer = lent::unit_of(sheet, setting.year());
     Refusal::answered(answer.number, answer.place, answer.year)?;
-    Ok(match answer.unit {
-        units::DEVICE_POINTS => Unit::DevicePoints,
-        units::METRES => Unit::Metres,
-        units::RADIANS => Unit::Radians,
-        units::DEGREES => Unit::Degrees,
-        _ => Unit::Unknown(u8::try_from(answer.byte).unwrap_or(u8::MAX)),
-    })
+    Ok(Unit::of(answer.unit, answer.byte))
+}
+
+/// The rest of an accepted sheet, which is long enough for it.
+fn rest_of(sheet: &[u8]) -> Result<&Rest, Refusal> {
+    let rest = sheet.get(passport::REST.place..).and_then(|from| from.first_chunk());
+    rest.ok_or(Refusal { number: Refusal::SHORT, place: 0, year: 0 })
 }
 
 /// An accepted sheet: its bytes, lent, and its record table.
@@ -78,7 +78,8 @@ pub struct Sheet<'a> {
     setting: Setting,
     sizes: Sizes,
     table: Table,
-    common: Common,
+    unit: Unit,
+    common: Common<'a>,
 }
 
 impl<'a> Sheet<'a> {
@@ -91,7 +92,7 @@ impl<'a> Sheet<'a> {
     /// for record in sheet.records() {
     ///     for part in record.parts() {
     ///         for point in part.points() {
-    ///             println!("{} {}", point.x.number(), point.y.number());
+    ///             println!("{} {} in {}", point.x.number(), point.y.number(), point.x.unit());
     ///         }
     ///     }
     /// }
@@ -101,10 +102,10 @@ impl<'a> Sheet<'a> {
     pub fn read(bytes: &'a [u8], setting: Setting) -> Result<Sheet<'a>, Refusal> {
         let sizes = check(bytes, setting)?;
         let table = Table::unfold_sized(bytes, setting, &sizes)?;
-        let byte = |field: Field| bytes.get(field.place).copied().unwrap_or(0);
-        let (flags, labels) = (byte(passport::FLAGS), Coding::of_labels(byte(passport::LABELS)));
-        let common = Common { unit: unit_of(bytes, setting)?, flags, labels };
-        Ok(Sheet { bytes, setting, sizes, table, common })
+        let rest = rest_of(bytes)?;
+        let byte = |field: Field| rest[passport::in_rest(field).place];
+        let common = Common { rest, flags: byte(passport::FLAGS), labels: Coding::of_labels(byte(passport::LABELS)) };
+        Ok(Sheet { bytes, setting, sizes, table, unit: unit_of(bytes, setting)?, common })
     }
 
     /// The sheet's bytes.
@@ -144,7 +145,12 @@ impl<'a> Sheet<'a> {
 
     /// The unit of its coordinates.
     pub fn unit(&self) -> Unit {
-        self.common.unit
+        self.unit
+    }
+
+    /// The unit of its heights, whatever that of its coordinates is.
+    pub fn height_unit(&self) -> HeightUnit {
+        HeightUnit::of_rest(self.common.rest)
     }
 
     /// Its head as the writer takes it, with all that is carried. The library checks the sheet again for it.

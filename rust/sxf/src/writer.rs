@@ -1,5 +1,5 @@
 //! A sheet is written, from a head and a record table.
-use crate::coordinates::{Coordinate, ElementKind, Unit};
+use crate::coordinates::{Coordinate, ElementKind, Height, HeightUnit, Unit};
 use crate::head::Head;
 use crate::item::{Coding, Item};
 use crate::part::{Part, Point};
@@ -54,21 +54,39 @@ pub fn check_head(head: &Head<'_>, setting: Setting) -> Result<(), Refusal> {
 #[derive(Clone, Debug)]
 pub struct Writer<'a> {
     head: Head<'a>,
-    unit: Unit,
+    units: Units,
     table: Table,
+}
+
+/// The units that a sheet's points are in.
+#[derive(Clone, Copy, Debug)]
+struct Units {
+    plane: Unit,
+    height: HeightUnit,
+}
+
+impl Units {
+    fn of(sheet: &Sheet<'_>) -> Units {
+        Units { plane: sheet.unit(), height: sheet.height_unit() }
+    }
 }
 
 impl<'a> Writer<'a> {
     /// A sheet of no record. A head that is refused at the latest setting is refused here.
     pub fn new(head: Head<'a>) -> Result<Writer<'a>, Refusal> {
         let empty = write(&head, TableRef::default(), Setting::Y2017)?;
-        let unit = Sheet::read(&empty, Setting::Y2017)?.unit();
-        Ok(Writer { head, unit, table: Table::default() })
+        let units = Units::of(&Sheet::read(&empty, Setting::Y2017)?);
+        Ok(Writer { head, units, table: Table::default() })
     }
 
     /// The unit of the sheet, which its head says.
     pub fn unit(&self) -> Unit {
-        self.unit
+        self.units.plane
+    }
+
+    /// The unit of the sheet's heights, which its head says.
+    pub fn height_unit(&self) -> HeightUnit {
+        self.units.height
     }
 
     /// The record table so far.
@@ -76,7 +94,7 @@ impl<'a> Writer<'a> {
         self.table.lend()
     }
 
-    /// Adds a typed record. Coordinates must be in the sheet's unit, and numbers such that the record's elements hold them; nothing is
+    /// Adds a typed record. Coordinates must be in the sheet's unit, heights in that of its heights, and numbers such that the record's elements hold them; nothing is
     /// rounded. What else is wrong with it is refused when the sheet is written.
     ///
     /// ```
@@ -93,7 +111,7 @@ impl<'a> Writer<'a> {
     /// # Ok::<(), Box<dyn std::error::Error>>(())
     /// ```
     pub fn push(&mut self, record: &NewRecord) -> Result<(), Misfit> {
-        let elements = record.elements(self.unit)?;
+        let elements = record.elements(self.units)?;
         self.table.numbers.extend(record.numbers());
         self.table.elements.extend(elements);
         self.table.bytes.extend(record.parts.iter().flat_map(|part| &part.text));
@@ -173,12 +191,13 @@ impl NewRecord {
         record.numbers().into_iter().chain(parts).chain(items)
     }
 
-    fn elements(&self, unit: Unit) -> Result<Vec<u64>, Misfit> {
+    fn elements(&self, units: Units) -> Result<Vec<u64>, Misfit> {
+        let (planar, height) = (self.reference.planar(), self.reference.height());
         let mut elements = Vec::new();
         for (part, new) in self.parts.iter().enumerate() {
             for (number, point) in new.points.iter().enumerate() {
                 let misfit = |why| Misfit { part, point: number, why };
-                store(point, self.reference, unit, &mut elements).map_err(misfit)?;
+                store(point, planar, height, units, &mut elements).map_err(misfit)?;
             }
         }
         Ok(elements)
@@ -214,14 +233,20 @@ impl From<Record<'_>> for NewRecord {
 }
 
 /// Adds the elements of a point, or says why it does not fit its record or its sheet.
-fn store(point: &Point, reference: Reference, unit: Unit, elements: &mut Vec<u64>) -> Result<(), Why> {
+fn store(
+    point: &Point,
+    planar: ElementKind,
+    height: Option<ElementKind>,
+    units: Units,
+    elements: &mut Vec<u64>,
+) -> Result<(), Why> {
     for coordinate in [point.x, point.y] {
-        elements.push(planar_bits(coordinate, reference.planar(), unit)?);
+        elements.push(planar_bits(coordinate, planar, units.plane)?);
     }
-    match (reference.height(), point.height) {
+    match (height, point.height) {
         (None, None) => Ok(()),
         (Some(kind), Some(height)) => {
-            elements.push(kind.bits(height.number()).ok_or(Why::Number(kind))?);
+            elements.push(height_bits(height, kind, units.height)?);
             Ok(())
         }
         (called_for, _) => Err(Why::Height(called_for.is_some())),
@@ -233,6 +258,13 @@ fn planar_bits(coordinate: Coordinate, kind: ElementKind, unit: Unit) -> Result<
         return Err(Why::Unit(coordinate.unit(), unit));
     }
     kind.bits(coordinate.number()).ok_or(Why::Number(kind))
+}
+
+fn height_bits(height: Height, kind: ElementKind, unit: HeightUnit) -> Result<u64, Why> {
+    if height.unit() != unit {
+        return Err(Why::HeightUnit(height.unit(), unit));
+    }
+    kind.bits(height.number()).ok_or(Why::Number(kind))
 }
 
 /// A part to be written.
@@ -363,6 +395,8 @@ pub struct Misfit {
 pub enum Why {
     /// A coordinate in the first unit, where the sheet has the second.
     Unit(Unit, Unit),
+    /// A height in the first unit, where the sheet's heights are in the second.
+    HeightUnit(HeightUnit, HeightUnit),
     /// A number that an element of this kind does not hold exactly.
     Number(ElementKind),
     /// A height is missing (true), or there is one in two dimensions (false).
@@ -374,6 +408,7 @@ impl fmt::Display for Misfit {
         write!(f, "part {}, point {}: ", self.part, self.point)?;
         match self.why {
             Why::Unit(given, unit) => write!(f, "a coordinate in {given}, where the sheet is in {unit}"),
+            Why::HeightUnit(given, unit) => write!(f, "a height in {given}, where the sheet's heights are in {unit}"),
             Why::Number(kind) => write!(f, "a number that its element ({kind:?}) does not hold exactly"),
             Why::Height(true) => f.write_str("no height, where the record has three dimensions"),
             Why::Height(false) => f.write_str("a height, where the record has two dimensions"),
@@ -386,7 +421,7 @@ impl Error for Misfit {}
 #[cfg(test)]
 mod tests {
     use super::*;
-    use crate::coordinates::{Height, Number};
+    use crate::coordinates::Number;
     use crate::reference::Localisation;
 
     fn point(unit: Unit, x: i64) -> Point {
@@ -408,10 +443,13 @@ mod tests {
         assert_eq!(pushed(plane, point(device, 65536)), Err(Why::Number(ElementKind::Short)));
         assert_eq!(pushed(plane, point(Unit::Metres, 1)), Err(Why::Unit(Unit::Metres, device)));
         assert_eq!(pushed(space, point(device, 1)), Err(Why::Height(true)));
-        let high = |number| Point { height: Some(Height::new(number)), ..point(device, 1) };
+        let high = |number| Point { height: Some(HeightUnit::Metres.height(number)), ..point(device, 1) };
         assert_eq!(pushed(plane, high(Number::Single(1.0))), Err(Why::Height(false)));
         assert_eq!(pushed(space, high(Number::Single(1.0))), Ok(()));
         assert_eq!(pushed(space, high(Number::Whole(1))), Err(Why::Number(ElementKind::Single)));
+        let other = HeightUnit::Unknown(1);
+        let unknown = Point { height: Some(other.height(Number::Single(1.0))), ..point(device, 1) };
+        assert_eq!(pushed(space, unknown), Err(Why::HeightUnit(other, HeightUnit::Metres)));
     }
 
     #[test]

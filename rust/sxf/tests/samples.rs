@@ -3,7 +3,7 @@ use std::fs;
 use std::path::PathBuf;
 use sxf::fields::{passport, Field};
 use sxf::{
-    check, record_at, row, write, Coding, Head, Height, Localisation, NewItem, NewPart, NewRecord, Number, Point, Reference,
+    check, record_at, row, write, Coding, Head, HeightUnit, Localisation, NewItem, NewPart, NewRecord, Number, Point, Reference,
     Refusal, Setting, Sheet, Table, TableRef, Text, Unit, Value, Writer,
 };
 
@@ -202,7 +202,7 @@ fn values_of_items_are_told() {
 #[test]
 fn texts_values_and_heights_stand_apart() {
     let plane = |n| Unit::DevicePoints.coordinate(Number::Whole(n));
-    let point = |n: i64| Point { x: plane(n), y: plane(n + 1), height: Some(Height::new(Number::Single(0.5))) };
+    let point = |n: i64| Point { x: plane(n), y: plane(n + 1), height: Some(HeightUnit::Metres.height(Number::Single(0.5))) };
     let reference = Reference::new(Localisation::Label).with(Reference::TEXT_IN_METRIC | Reference::THREE_DIMENSIONS);
     let record = NewRecord::new(7, reference)
         .part(NewPart::new(vec![point(1), point(3)]).text("first"))
@@ -241,6 +241,55 @@ fn coordinates_are_in_the_sheets_unit() {
         let sheet = read(&bytes);
         assert_eq!(NewRecord::from(sheet.record(0).expect("a record")).parts, [part]);
         assert_eq!(sheet.unit(), unit);
+    }
+}
+
+/// A sheet of one record with these bytes at +96, +236 and +237, in three dimensions, of these elements.
+fn sheet_in_space(flags: u8, unit: u8, height_unit: u8, bits: u32, elements: [u64; 3]) -> Vec<u8> {
+    let mut rest = *Head::PLAIN.rest;
+    for (field, byte) in [(passport::FLAGS, flags), (passport::UNIT, unit), (passport::HEIGHT_UNIT, height_unit)] {
+        rest[passport::in_rest(field).place] = byte;
+    }
+    let reference = Reference::new(Localisation::Point).with(bits | Reference::THREE_DIMENSIONS);
+    let record = row::Record { reference: reference.0.into(), parts: 1, ..row::Record::default() };
+    let numbers = [&record.numbers()[..], &row::Part { points: 1, text_length: 0 }.numbers()].concat();
+    let table = TableRef { numbers: &numbers, elements: &elements, bytes: &[] };
+    write(&Head { rest: &rest, ..Head::PLAIN }, table, Setting::Y2017).expect("a sheet")
+}
+
+/// A height is in metres or of unknown unit by its own byte, whatever the plane is in; and the plane does not see that byte.
+#[test]
+fn heights_are_in_a_unit_of_their_own() {
+    let planes = [(3, 64, Unit::DevicePoints), (0x1B, 0, Unit::Metres), (0x1B, 64, Unit::Radians), (0x1B, 7, Unit::Unknown(7))];
+    for (flags, byte, plane) in planes {
+        for (height_byte, unit) in [(0, HeightUnit::Metres), (64, HeightUnit::Unknown(64)), (255, HeightUnit::Unknown(255))] {
+            let bytes = sheet_in_space(flags, byte, height_byte, 0, [65535, 0, 0x42FF_0000]);
+            let sheet = read(&bytes);
+            assert_eq!((sheet.unit(), sheet.height_unit()), (plane, unit));
+            let point = sheet.record(0).expect("a record").parts().next().and_then(|part| part.points().next());
+            let [x, y] = [65535, 0].map(|n| plane.coordinate(Number::Whole(n)));
+            assert_eq!(point, Some(Point { x, y, height: Some(unit.height(Number::Single(127.5))) }));
+            assert!(written_from_records(&sheet) == bytes);
+        }
+    }
+}
+
+/// The numbers of elements that a double or a single could lose: each is exact, and a NaN is its bits.
+#[test]
+fn elements_stand_for_exact_numbers() {
+    let large = Reference::ELEMENT_SIZE;
+    let double = large | Reference::FLOATING;
+    let (least, nan) = (f32::from_bits(1), 0x7FF0_0000_0000_0001);
+    for (bits, elements, numbers) in [
+        (0, [65535, 32768, 1], [Number::Whole(65535), Number::Whole(32768), Number::Single(least)]),
+        (large, [1 << 31, 0xFFFF_FFFF, 0x7F80_0001], [Number::Whole(-1 << 31), Number::Whole(-1), Number::NotNumber(0x7F80_0001)]),
+        (double, [1, nan, 1 << 63], [Number::Double(f64::from_bits(1)), Number::NotNumber(nan), Number::Double(-0.0)]),
+    ] {
+        let bytes = sheet_in_space(0x1B, 0, 0, bits, elements);
+        let sheet = read(&bytes);
+        let point = sheet.record(0).expect("a record").parts().next().and_then(|part| part.points().next()).expect("a point");
+        assert_eq!([point.x.number(), point.y.number(), point.height.expect("a height").number()], numbers);
+        assert!(written_from_records(&sheet) == bytes);
     }
 }
 

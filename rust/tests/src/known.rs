@@ -5,12 +5,14 @@ use crate::archive;
 use crate::judge::{Care, Judge};
 use crate::numbers::Numbers;
 use second::Refusal;
+use sxf_sys::dimensions::{EAST, HEIGHT, NORTH};
 use sxf_sys::fields::{descriptor, header, passport, Field, START};
-use sxf_sys::refusals::{ASK, OK, SHORT, SUM, TEXT, TOO_NEW};
-use sxf_sys::years;
+use sxf_sys::reference::{ELEMENT_SIZE, FLOATING, THREE_DIMENSIONS};
+use sxf_sys::refusals::{ASK, OK, SEMANTIC, SHORT, SUM, TABLE, TEXT, TOO_NEW};
+use sxf_sys::{kinds, row, units, years};
 
 /// How many there are.
-pub const CASES: u64 = 13;
+pub const CASES: u64 = 15;
 
 /// Where the metric of the first record starts.
 pub const METRIC: usize = START + header::SIZE;
@@ -106,7 +108,9 @@ pub fn run(judge: &mut Judge, case: u64) {
         9 => designation(judge, 31, Ok(START as u64)),
         10 => designation(judge, 32, Err((TEXT, 28, 0))),
         11 => record_of_q(judge),
-        _ => visibilities(judge),
+        12 => visibilities(judge),
+        13 => coordinates(judge),
+        _ => values(judge),
     }
 }
 
@@ -165,5 +169,59 @@ fn visibilities(judge: &mut Judge) {
     judge.same(|| "0xFF".into(), archive::visibility_of(3, 0xFF), unset);
     judge.visibility(3, 0x24);
     judge.visibility(3, 0xFF);
+    judge.accepted = true;
+}
+
+/// Elements whose answers are worked out by hand.
+fn coordinates(judge: &mut Judge) {
+    let mut real = [0; passport::REST.width];
+    real[passport::in_rest(passport::FLAGS).place] = 0x1B;
+    let still = [0; passport::REST.width];
+    let none = archive::Coordinate::default();
+    let is = |unit, width, kind, bits| archive::Coordinate { unit, width, kind, bits, ..none };
+    let refused = |number, place| archive::Coordinate { number, place, ..none };
+    let (short, long, wide) = (0, ELEMENT_SIZE, ELEMENT_SIZE | FLOATING | THREE_DIMENSIONS);
+    let space = THREE_DIMENSIONS;
+    let nan = 0x7FF0_0000_0000_0001;
+    let points = is(units::DEVICE_POINTS, 2, kinds::WHOLE, 65535f64.to_bits());
+    // The least of the singles is a normal double, 2 to the -149.
+    let least = is(units::METRES, 4, kinds::SINGLE, 0x36A0_0000_0000_0000);
+    for (name, rest, reference, dimension, bits, due) in [
+        ("a short 65535", still, short, NORTH, 65535, points),
+        ("a long -1", real, long, EAST, 0xFFFF_FFFF, is(units::METRES, 4, kinds::WHOLE, (-1f64).to_bits())),
+        ("the least long", real, long, EAST, 1 << 31, is(units::METRES, 4, kinds::WHOLE, (-2_147_483_648f64).to_bits())),
+        ("a height of a sheet that is not real", still, space, HEIGHT, 1, least),
+        ("a negative zero", real, wide, NORTH, 1 << 63, is(units::METRES, 8, kinds::DOUBLE, 1 << 63)),
+        ("a NaN", real, wide, HEIGHT, nan, is(units::METRES, 8, kinds::NAN, nan)),
+        ("a height in two dimensions", real, short, HEIGHT, 0, refused(ASK, 0)),
+        ("no dimension", real, short, 3, 0, refused(ASK, 0)),
+        ("a short too wide", real, short, NORTH, 65536, refused(TABLE, 0)),
+        ("four reference bytes", real, 1 << 24, HEIGHT, 0, refused(TABLE, row::REFERENCE as u64)),
+    ] {
+        let answer = archive::coordinate_of(&rest, reference as u32, dimension, bits);
+        judge.same(|| name.into(), answer, due);
+        judge.coordinate(&rest, reference as u32, dimension, bits);
+    }
+    judge.accepted = true;
+}
+
+/// Items whose values are worked out by hand.
+fn values(judge: &mut Judge) {
+    let none = archive::Value::default();
+    let double = |kind, bits| archive::Value { kind, bits, ..none };
+    let refused = |place| archive::Value { number: SEMANTIC, place, ..none };
+    for (kind, scale, bits, due) in [
+        // Document 000, example 1: 127.3.
+        (2, 0xFF, 0x04F9, archive::Value { kind: kinds::DECIMAL, whole: 1273, power: -1, ..none }),
+        (4, 0, 0x1_0000_0001, archive::Value { kind: kinds::DECIMAL, whole: 1, ..none }),
+        (8, 0x80, 0x3FF0_0000_0000_0000, double(kinds::DOUBLE, 1f64.to_bits())),
+        (8, 0, 0xFFF8_0000_0000_0000, double(kinds::NAN, 0xFFF8_0000_0000_0000)),
+        (126, 3, 0x4142_4344, none),
+        (1, 0x80, 0, refused(3)),
+        (3, 0x80, 0, refused(2)),
+    ] {
+        judge.same(|| format!("type {kind}, bits {bits:#x}"), archive::value_of(kind, scale, bits), due);
+        judge.value(kind, scale, bits);
+    }
     judge.accepted = true;
 }

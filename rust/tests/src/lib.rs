@@ -6,6 +6,7 @@
 //! the seed of the run, and is the same in every run that has it.
 
 pub mod archive;
+pub mod coordinates;
 pub mod each;
 pub mod features;
 pub mod heads;

@@ -185,6 +185,14 @@ fn print_reasons(tally: &Tally) {
     }
     println!("units 1 to 5: {:?}", &tally.units[1..]);
     println!("no NaN, or the first at each corner: {:?}", tally.nans);
+    for (dimension, name) in ["X", "Y", "heights"].into_iter().enumerate() {
+        println!(
+            "{name}: kinds 1 to 4 {:?}, units 1 to 5 {:?}",
+            &tally.elements[dimension][1..5],
+            &tally.element_units[dimension][1..]
+        );
+    }
+    println!("items: kinds 0 to 5 {:?}", tally.items);
 }
 
 /// Runs the phases that are asked for, and prints a line for each.

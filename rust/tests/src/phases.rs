@@ -1,5 +1,6 @@
 //! The phases: what a case is, and how many cases there are.
 
+use crate::coordinates;
 use crate::each;
 use crate::heads::{head, NO_SETTINGS, SETTINGS};
 use crate::judge::{Care, Judge};
@@ -45,12 +46,18 @@ pub enum Phase {
     DamagedTables,
     /// Records of many points, parts, items or bytes, right or not.
     Large,
+    /// Elements of points, for one value of a byte.
+    Coordinates,
+    /// Elements of points that are drawn.
+    DrawnCoordinates,
 }
 
-pub const PHASES: [Phase; 14] = [
+pub const PHASES: [Phase; 16] = [
     Phase::Known,
     Phase::Visibility,
     Phase::Values,
+    Phase::Coordinates,
+    Phase::DrawnCoordinates,
     Phase::Empty,
     Phase::Limits,
     Phase::EachBit,
@@ -81,6 +88,8 @@ impl Phase {
             Phase::Tables => "tables",
             Phase::DamagedTables => "damaged-tables",
             Phase::Large => "large",
+            Phase::Coordinates => "coordinates",
+            Phase::DrawnCoordinates => "drawn-coords",
         }
     }
 
@@ -89,7 +98,8 @@ impl Phase {
     pub fn cases(self, times: u64) -> u64 {
         match self {
             Phase::Known => known::CASES,
-            Phase::Visibility | Phase::Values | Phase::EachByte => 256,
+            Phase::Visibility | Phase::Coordinates | Phase::EachByte => 256,
+            Phase::Values => VALUES,
             Phase::Limits => limits::CASES,
             Phase::Empty => 1024,
             Phase::EachBit => 60 * times,
@@ -100,6 +110,7 @@ impl Phase {
             Phase::Tables => 70_000 * times,
             Phase::DamagedTables => 140_000 * times,
             Phase::Large => 2000 * times,
+            Phase::DrawnCoordinates => 20_000 * times,
         }
     }
 
@@ -122,6 +133,8 @@ impl Phase {
             Phase::EachBit | Phase::EachCut | Phase::Sheets | Phase::DamagedSheets => self.with_sheet(judge, numbers),
             Phase::EachNumber | Phase::Tables | Phase::DamagedTables => self.with_table(judge, numbers),
             Phase::Large => large::run(judge, numbers),
+            Phase::Coordinates => coordinates::byte(judge, case as u8, numbers),
+            Phase::DrawnCoordinates => coordinates::drawn(judge, numbers),
         }
     }
 
@@ -242,16 +255,22 @@ pub(crate) fn damaged_table(judge: &mut Judge, year: u32, mut head: Head, mut ta
     judge.writes(&head, &table, &years, numbers);
 }
 
+/// How many numbers the values of items are tried with.
+const VALUES: u64 = 384;
+
 /// The value of one number for all types and scales: each bit alone, each
-/// run of ones, then any.
+/// run of ones, short ones, doubles that are NaNs or infinite, then any.
 fn values(judge: &mut Judge, numbers: &mut Numbers, case: u64) {
-    let any = numbers.any() as u32;
+    let any = numbers.any();
     let bits = match case {
-        0..=31 => 1 << case,
-        32..=63 => u32::MAX >> (case - 32),
-        64..=95 => u32::MAX << (case - 64),
-        96 => 0,
-        97..=127 => any & 0xFFFF,
+        0..=63 => 1 << case,
+        64..=127 => u64::MAX >> (case - 64),
+        128..=191 => u64::MAX << (case - 128),
+        192 => 0,
+        193..=207 => any & 0xFFFF,
+        208..=223 => any & 0xFFFF_FFFF,
+        224..=319 => any | 0x7FF0_0000_0000_0000,
+        320..=323 => 0xFFF0_0000_0000_0000 | 7 >> (case - 320),
         _ => any,
     };
     judge.note(format!("bits {bits:#x}"));

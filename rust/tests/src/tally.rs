@@ -4,7 +4,7 @@ use crate::features;
 use std::collections::BTreeMap;
 use sxf_sys::fields::{descriptor, header, passport};
 use sxf_sys::refusals::*;
-use sxf_sys::{row, years};
+use sxf_sys::{kinds, row, units, years};
 
 /// The archive's calls.
 #[derive(Clone, Copy, PartialEq, Eq, PartialOrd, Ord, Debug)]
@@ -18,9 +18,10 @@ pub enum Call {
     Write,
     ValueOf,
     VisibilityOf,
+    CoordinateOf,
 }
 
-pub const CALLS: [Call; 9] = [
+pub const CALLS: [Call; 10] = [
     Call::Check,
     Call::Unfold,
     Call::RecordAt,
@@ -30,6 +31,7 @@ pub const CALLS: [Call; 9] = [
     Call::Write,
     Call::ValueOf,
     Call::VisibilityOf,
+    Call::CoordinateOf,
 ];
 
 impl Call {
@@ -41,6 +43,7 @@ impl Call {
             Call::Write => &[TOO_LONG, TEXT, RESERVED, TOO_NEW, NOT_CARRIED, COUNT, SEMANTIC, TABLE, ROOM, ASK],
             Call::ValueOf => &[SEMANTIC],
             Call::VisibilityOf => &[],
+            Call::CoordinateOf => &[TABLE, ASK],
         }
     }
 }
@@ -91,11 +94,13 @@ pub enum Where {
     Asked,
 }
 
-/// Whether a sheet was read or a table written.
+/// Whether a sheet was read or a table written, or the meaning of an element
+/// or of an item was asked for.
 #[derive(Clone, Copy, PartialEq, Eq, PartialOrd, Ord, Debug)]
 pub enum Way {
     Read,
     Write,
+    Mean,
 }
 
 /// Why something was refused, as far as number, place and year tell.
@@ -119,11 +124,41 @@ pub struct Tally {
     pub units: [u64; 6],
     /// By the first corner that was a NaN, counted from 1; at 0 there was none.
     pub nans: [u64; 9],
+    /// The kinds of numbers that elements were, by dimension.
+    pub elements: [[u64; KINDS]; 3],
+    /// The units that elements were in, by dimension.
+    pub element_units: [[u64; 6]; 3],
+    /// The kinds of numbers that items were.
+    pub items: [u64; KINDS],
 }
+
+/// The kinds of numbers.
+pub const KINDS: usize = kinds::DECIMAL as usize + 1;
+
+/// What the elements of the plane can be, and in which units they can be.
+const IN_THE_PLANE: ([u64; 4], [u64; 5]) = (
+    [kinds::WHOLE, kinds::SINGLE, kinds::DOUBLE, kinds::NAN],
+    [units::DEVICE_POINTS, units::METRES, units::RADIANS, units::DEGREES, units::UNKNOWN_UNIT],
+);
+
+/// What heights can be, and in which units.
+const IN_HEIGHT: ([u64; 3], [u64; 2]) = ([kinds::SINGLE, kinds::DOUBLE, kinds::NAN], [units::METRES, units::UNKNOWN_UNIT]);
+
+/// What items can be.
+const IN_ITEMS: [u64; 4] = [kinds::NO_NUMBER, kinds::DOUBLE, kinds::NAN, kinds::DECIMAL];
 
 impl Default for Tally {
     fn default() -> Tally {
-        Tally { answers: Default::default(), reasons: BTreeMap::new(), features: [0; features::COUNT], units: [0; 6], nans: [0; 9] }
+        Tally {
+            answers: Default::default(),
+            reasons: BTreeMap::new(),
+            features: [0; features::COUNT],
+            units: [0; 6],
+            nans: [0; 9],
+            elements: Default::default(),
+            element_units: Default::default(),
+            items: Default::default(),
+        }
     }
 }
 
@@ -142,6 +177,9 @@ impl Tally {
         add(&mut self.features, &other.features);
         add(&mut self.units, &other.units);
         add(&mut self.nans, &other.nans);
+        add(self.elements.as_flattened_mut(), other.elements.as_flattened());
+        add(self.element_units.as_flattened_mut(), other.element_units.as_flattened());
+        add(&mut self.items, &other.items);
         for (reason, more) in &other.reasons {
             *self.reasons.entry(*reason).or_default() += more;
         }
@@ -180,8 +218,26 @@ impl Tally {
                 missing.push(format!("NaN {corner} was answered in {met} cases"));
             }
         }
+        let ((planar, plane_units), (high, height_units)) = (IN_THE_PLANE, IN_HEIGHT);
+        for (dimension, (kinds, units)) in
+            [(&planar[..], &plane_units[..]), (&planar, &plane_units), (&high, &height_units)].iter().enumerate()
+        {
+            let name = format!("element {dimension} of a point");
+            missing.extend(seldom(&self.elements[dimension], kinds, least, &format!("{name} of kind")));
+            missing.extend(seldom(&self.element_units[dimension], units, least, &format!("{name} in unit")));
+        }
+        missing.extend(seldom(&self.items, &IN_ITEMS, least, "an item of kind"));
         missing
     }
+}
+
+/// Which of these numbers were met less often than `least` times.
+fn seldom<'a>(met: &'a [u64], due: &'a [u64], least: u64, name: &'a str) -> impl Iterator<Item = String> + 'a {
+    let met = move |&number: &u64| (number, met[number as usize]);
+    due.iter()
+        .map(met)
+        .filter(move |&(_, met)| met < least)
+        .map(move |(number, met)| format!("{name} {number} was met in {met} cases"))
 }
 
 /// A refusal, the year of its feature or 0, and places where it stands.
@@ -201,6 +257,7 @@ pub fn due() -> Vec<Reason> {
     due.extend(reasons(Way::Write, &OF_HEADS));
     due.extend(reasons(Way::Read, &OF_READING));
     due.extend(reasons(Way::Write, &OF_WRITING));
+    due.extend(reasons(Way::Mean, &OF_MEANINGS));
     due
 }
 
@@ -265,6 +322,10 @@ const OF_READING: [Stated; 22] = [
     (ROOM, 0, &[Lent(1), Lent(2), Lent(3)]),
     (ASK, 0, &[Asked]),
 ];
+
+/// What is refused of an element, and of an item.
+const OF_MEANINGS: [Stated; 3] =
+    [(TABLE, 0, &[Row(row::REFERENCE), Asked]), (ASK, 0, &[Asked]), (SEMANTIC, 0, &[Item(row::ITEM_TYPE), Item(row::ITEM_SCALE)])];
 
 /// The rest that the writer refuses.
 const OF_WRITING: [Stated; 20] = [

@@ -1,27 +1,46 @@
 -- The answers as programs in C hold them: each case as a struct, `number` 0 for success, and what an answer does not have is 0.
 use Prim.Native.Nat.{ℕ}
-use lib.Ieee.{Float, binary64, toBits}
+use mathlib.Core.Bool.{cond}
+use mathlib.Core.List.{List}
+use mathlib.Core.Path.{_≡_, refl}
+use lib.Dec.{eqb}
+use lib.Ieee.{Float, binary64, nanBits, ofInt, ofBits, toBits}
 use lib.IntN.{pos}
+use Rattle.layout.specs.Answers.Coordinates.{measureOf}
+use Rattle.layout.specs.Answers.Enums.{refusal}
+use Rattle.layout.specs.Answers.Units.{numberOf}
+use Rattle.layout.specs.Answers.Values.{doubleOf}
+use Rattle.layout.specs.Refusals.{ASK}
 use Rattle.layout.specs.declared.Checked.{Checked}
 use Rattle.layout.specs.declared.Checked.the-variants as Check
 use Rattle.layout.specs.declared.CornerBits.{CornerBits}
 use Rattle.layout.specs.declared.Corners.{Corners}
 use Rattle.layout.specs.declared.Corners.the-variants as Corner
+use Rattle.layout.specs.declared.Dimension.the-variants.{North, East, Height}
 use Rattle.layout.specs.declared.Found.{Found}
 use Rattle.layout.specs.declared.Found.the-variants as Find
 use Rattle.layout.specs.declared.Headed.{Headed}
 use Rattle.layout.specs.declared.Headed.the-variants as Heads
+use Rattle.layout.specs.declared.HeightUnit.{HeightUnit}
+use Rattle.layout.specs.declared.HeightUnit.the-variants as High
+use Rattle.layout.specs.declared.Measured.{Measured}
+use Rattle.layout.specs.declared.Measured.the-variants as Measure
+use Rattle.layout.specs.declared.Number.{Number}
+use Rattle.layout.specs.declared.Number.the-variants as Is
 use Rattle.layout.specs.declared.PlaneCorners.{PlaneCorners}
 use Rattle.layout.specs.declared.SemanticValue.{SemanticValue}
 use Rattle.layout.specs.declared.SemanticValue.the-variants as Value
 use Rattle.layout.specs.declared.SheetUnit.{SheetUnit}
 use Rattle.layout.specs.declared.SheetUnit.the-variants as In
+use Rattle.layout.specs.declared.Stored.{Stored}
+use Rattle.layout.specs.declared.Stored.the-variants as As
 use Rattle.layout.specs.declared.UnitAnswer.{UnitAnswer}
 use Rattle.layout.specs.declared.UnitAnswer.the-variants as Unit-of
 use Rattle.layout.specs.declared.Visibility.{Visibility}
 use Rattle.layout.specs.declared.Visibility.the-variants as Visible
 use Rattle.layout.specs.declared.Written.{Written}
 use Rattle.layout.specs.declared.Written.the-variants as Write
+use Rattle.layout.specs.declared.structs.SxfCoordinate.{SxfCoordinate}
 use Rattle.layout.specs.declared.structs.SxfCorners.{SxfCorners}
 use Rattle.layout.specs.declared.structs.SxfHead.{SxfHead}
 use Rattle.layout.specs.declared.structs.SxfUnit.{SxfUnit}
@@ -83,7 +102,7 @@ headRow (Heads.Head x) =
 headRow (Heads.Refused r) =
     record { number = r .number; place = r .place; year = r .year; date = 0; designation = 0; title = 0; designation2 = 0; scale = 0 }
 
--- a unit by its number, and the byte of an unknown one
+-- a unit by its number, and the byte of an unknown one: device points 1, metres 2, radians 3, degrees 4, unknown 5
 abbrev pub unitAs : ℕ → ℕ → SxfUnit
 unitAs n byte = record { number = 0; place = 0; year = 0; «unit» = n; byte = byte }
 
@@ -93,6 +112,10 @@ unitKnown In.Metres = unitAs 2 0
 unitKnown In.Radians = unitAs 3 0
 unitKnown In.Degrees = unitAs 4 0
 unitKnown (In.Unknown b) = unitAs 5 b
+
+unfoldable pub heightUnitKnown : HeightUnit → SxfUnit
+heightUnitKnown High.Metres = unitAs 2 0
+heightUnitKnown (High.Unknown b) = unitAs 5 b
 
 unfoldable pub unitRow : UnitAnswer → SxfUnit
 unitRow (Unit-of.Unit u) = unitKnown u
@@ -155,7 +178,77 @@ unfoldable pub visibilityRow : Visibility → SxfVisibility
 visibilityRow Visible.Unset = record { set = 0; lower = 0; upper = 0 }
 visibilityRow (Visible.Bounds lower upper) = record { set = 1; lower = lower; upper = upper }
 
+-- What a number is, by its number: whole 1, single 2, double 3, a NaN 4, and for an item's value besides decimal 5, or none 0.
+-- The double that it stands for, by its bits; a NaN stands for none and has those stored.
+abbrev pub numberKind : Number → ℕ
+numberKind (Is.Whole z) = 1
+numberKind (Is.Single x) = 2
+numberKind (Is.Double x) = 3
+numberKind (Is.NotNumber b) = 4
+
+abbrev pub numberBits : Number → ℕ
+numberBits (Is.Whole z) = bits (ofInt binary64 z)
+numberBits (Is.Single x) = bits x
+numberBits (Is.Double x) = bits x
+numberBits (Is.NotNumber b) = b
+
+-- how many bytes an element has
+abbrev pub storedWidth : Stored → ℕ
+storedWidth (As.Short b) = 2
+storedWidth (As.Long b) = 4
+storedWidth (As.Single b) = 4
+storedWidth (As.Double b) = 8
+
+-- an element with its unit
+abbrev pub coordinateAs : SxfUnit → Stored → SxfCoordinate
+coordinateAs u e =
+    record {
+      number = 0;
+      place = 0;
+      year = 0;
+      «unit» = u .«unit»;
+      byte = u .byte;
+      width = storedWidth e;
+      kind = numberKind (numberOf e);
+      bits = numberBits (numberOf e);
+    }
+
+unfoldable pub coordinateRow : Measured → SxfCoordinate
+coordinateRow (Measure.Plane u e) = coordinateAs (unitKnown u) e
+coordinateRow (Measure.Height u e) = coordinateAs (heightUnitKnown u) e
+coordinateRow (Measure.Refused r) =
+    record { number = r .number; place = r .place; year = r .year; «unit» = 0; byte = 0; width = 0; kind = 0; bits = 0 }
+
+-- A dimension by its number, which is that of its element in a point: north 0, east 1, height 2; another is ASK.
+unfoldable pub measureBy : List ℕ → ℕ → ℕ → ℕ → Measured
+measureBy rest reference dimension bits =
+    cond (eqb dimension 0) (measureOf rest reference North bits)
+    (cond (eqb dimension 1) (measureOf rest reference East bits)
+    (cond (eqb dimension 2) (measureOf rest reference Height bits) (Measure.Refused (refusal ASK 0 0))))
+
+-- a value that is no decimal
+abbrev pub plainRow : ℕ → ℕ → SxfValue
+plainRow kind b = record { number = 0; place = 0; year = 0; kind = kind; bits = b; whole = pos 0; power = pos 0 }
+
 unfoldable pub valueRow : SemanticValue → SxfValue
-valueRow (Value.Number d) = record { number = 0; place = 0; year = 0; «is_number» = 1; whole = d .whole; power = d .power }
-valueRow (Value.Other t) = record { number = 0; place = 0; year = 0; «is_number» = 0; whole = pos 0; power = pos 0 }
-valueRow (Value.Refused r) = record { number = r .number; place = r .place; year = r .year; «is_number» = 0; whole = pos 0; power = pos 0 }
+valueRow (Value.Number d) = record { number = 0; place = 0; year = 0; kind = 5; bits = 0; whole = d .whole; power = d .power }
+valueRow (Value.Double x) = plainRow 3 (bits x)
+valueRow (Value.NotNumber b) = plainRow 4 b
+valueRow (Value.Other t) = plainRow 0 0
+valueRow (Value.Refused r) = record { number = r .number; place = r .place; year = r .year; kind = 0; bits = 0; whole = pos 0; power = pos 0 }
+
+-- The least integer of four bytes, in metres, is -2147483648; a single's least number is a double like another; a NaN keeps its bits.
+coordinates : (coordinateRow (Measure.Plane In.Metres (As.Long 0x80000000))
+    ≡ record { number = 0; place = 0; year = 0; «unit» = 2; byte = 0; width = 4; kind = 1; bits = 0xC1E0000000000000 })
+    × (coordinateRow (Measure.Plane In.DevicePoints (As.Short 3))
+    ≡ record { number = 0; place = 0; year = 0; «unit» = 1; byte = 0; width = 2; kind = 1; bits = 0x4008000000000000 })
+    × (coordinateRow (Measure.Height (High.Unknown 9) (As.Single 1))
+    ≡ record { number = 0; place = 0; year = 0; «unit» = 5; byte = 9; width = 4; kind = 2; bits = 0x36A0000000000000 })
+    × (coordinateRow (Measure.Height High.Metres (As.Double 0x7FF8000000000001))
+    ≡ record { number = 0; place = 0; year = 0; «unit» = 2; byte = 0; width = 8; kind = 4; bits = 0x7FF8000000000001 })
+unfolding coordinateRow unitKnown heightUnitKnown numberOf ofInt ofBits toBits nanBits
+coordinates = (refl, refl, refl, refl)
+
+values : (valueRow (doubleOf 0x8000000000000000) ≡ plainRow 3 0x8000000000000000) × (valueRow (doubleOf 0x7FF0000000000001) ≡ plainRow 4 0x7FF0000000000001)
+unfolding valueRow doubleOf ofBits toBits nanBits
+values = (refl, refl)

@@ -1,15 +1,16 @@
--- The unit of a sheet, and what an element stands for. (01, Passport)
+-- The unit of a sheet, that of its heights, and the number that an element stands for. (01, Passport)
 use Prim.Native.Nat.{ℕ, _/_, _^_}
-use mathlib.Core.Bool.{Bool, true, false, cond, not, _||_}
+use mathlib.Core.Bool.{Bool, cond, not, _||_}
+use mathlib.Core.List.{List}
 use mathlib.Core.Path.{_≡_, refl}
 use lib.Dec.{eqb, leb}
 use lib.Ieee.{binary32, binary64, nanBits, ofBits}
 use lib.IntN.{ℤ, pos, negsuc, _-ℤ_}
 use Rattle.layout.specs.Bytes.{Field, numberIn, bits}
 use Rattle.layout.specs.Fields.Passport
-use Rattle.layout.specs.Shared.Reference.{elementSize, floating}
-use Rattle.layout.specs.Shared.Widths.{planar, height}
-use Rattle.layout.specs.Sheet.{Reference, Head}
+use Rattle.layout.specs.Sheet.{Head}
+use Rattle.layout.specs.declared.HeightUnit.{HeightUnit}
+use Rattle.layout.specs.declared.HeightUnit.the-variants as Height
 use Rattle.layout.specs.declared.Number.{Number}
 use Rattle.layout.specs.declared.Number.the-variants as Is
 use Rattle.layout.specs.declared.SheetUnit.{SheetUnit}
@@ -36,29 +37,26 @@ unitOf flags resolution accuracy unit =
     (cond (eqb unit 0) Metres (cond (eqb unit 64) Radians (cond (eqb unit 65) Degrees (Unknown unit))))
     DevicePoints
 
+-- a field of the 304 bytes from +96 on
+abbrev pub inRest : Field → List ℕ → ℕ
+inRest f rest = numberIn (Passport.inRest f) rest
+
+-- the unit of a sheet, from these bytes
+abbrev pub restUnit : List ℕ → SheetUnit
+restUnit rest = unitOf (inRest Passport.flags rest) (inRest Passport.resolution rest) (inRest Passport.accuracy rest) (inRest Passport.unit rest)
+
 abbrev pub sheetUnit : Head → SheetUnit
-sheetUnit h =
-    let there : Field → ℕ = λ f. numberIn (Passport.inRest f) (h .rest) in
-    unitOf (there Passport.flags) (there Passport.resolution) (there Passport.accuracy) (there Passport.unit)
+sheetUnit h = restUnit (h .rest)
 
--- A planar element is an integer or a floating number as byte 22 says; a height is always a floating number (000, table 3, note 6).
-abbrev pub planarStored : Bool → Bool → ℕ → Stored
-planarStored false false b = As.Short b
-planarStored false true b = As.Single b
-planarStored true false b = As.Long b
-planarStored true true b = As.Double b
+-- The unit of heights stands in a byte of its own, whatever the plane's is: "Единица измерения по высоте [..] 0 - метры" (000, table 1).
+unfoldable pub heightUnitOf : ℕ → HeightUnit
+heightUnitOf byte = cond (eqb byte 0) Height.Metres (Height.Unknown byte)
 
-abbrev pub heightStored : ℕ → ℕ → Stored
-heightStored width b = cond (eqb width 8) (As.Double b) (As.Single b)
-
-abbrev pub planarElement : Reference → ℕ → Stored
-planarElement r b = planarStored (elementSize r) (floating r) b
-
-abbrev pub heightElement : Reference → ℕ → Stored
-heightElement r b = heightStored (height (planar (elementSize r) (floating r))) b
+abbrev pub restHeightUnit : List ℕ → HeightUnit
+restHeightUnit rest = heightUnitOf (inRest Passport.heightUnit rest)
 
 -- An integer of two bytes is 0 to 65535, one of four bytes is signed (000, 2.1.4: "в диапазоне от 0 до 65535 для двухбайтного элемента
--- метрики или в диапазоне от -2147483647 до 2147483647 для четырехбайтного").
+-- метрики или в диапазоне от -2147483647 до 2147483647 для четырехбайтного"). 0x80000000, which 000 leaves out, is the least (DECISIONS 19).
 unfoldable pub numberOf : Stored → Number
 numberOf (As.Short b) = Is.Whole (pos b)
 numberOf (As.Long b) = Is.Whole (signed 4 b)
@@ -78,12 +76,6 @@ numbers : (numberOf (As.Short 65535) ≡ Is.Whole (pos 65535)) × (numberOf (As.
 unfolding numberOf nanBits
 numbers = (refl, refl, refl, refl, refl, refl)
 
--- by bytes 21 and 22
-abbrev of : ℕ → ℕ → Reference
-of b21 b22 = record { byte20 = 0; byte21 = b21; byte22 = b22 }
-
-elements : (planarElement (of 0 0) 7 ≡ As.Short 7) × (planarElement (of 0 4) 7 ≡ As.Single 7) × (planarElement (of 4 0) 7 ≡ As.Long 7)
-    × (planarElement (of 4 4) 7 ≡ As.Double 7)
-    × (heightElement (of 0 2) 7 ≡ As.Single 7) × (heightElement (of 4 2) 7 ≡ As.Single 7) × (heightElement (of 0 6) 7 ≡ As.Single 7)
-    × (heightElement (of 4 6) 7 ≡ As.Double 7)
-elements = (refl, refl, refl, refl, refl, refl, refl, refl)
+heights : (heightUnitOf 0 ≡ Height.Metres) × (heightUnitOf 64 ≡ Height.Unknown 64) × (heightUnitOf 255 ≡ Height.Unknown 255)
+unfolding heightUnitOf
+heights = (refl, refl, refl)

@@ -72,6 +72,10 @@ corners = field 104 64
 abbrev pub unit : Field
 unit = field 236 1
 
+-- "Единица измерения по высоте" (000, table 1: the sixth of the eight bytes at +232)
+abbrev pub heightUnit : Field
+heightUnit = field 237 1
+
 -- "+312 signed resolution"
 abbrev pub resolution : Field
 resolution = field 312 4

@@ -1,9 +1,12 @@
--- Which types are integers, and what the others answer.
+-- Which types are integers, which one is a double, and what a type answers that there is not.
 use Prim.Native.Nat.{ℕ, _≤_}
-use Rattle.layout.specs.Answers.Values.{valueIn, semanticValue}
+use Rattle.layout.specs.Answers.Enums.{refusal}
+use Rattle.layout.specs.Answers.Values.{semanticValue}
+use Rattle.layout.specs.Fields.Item as Item
+use Rattle.layout.specs.Refusals.{SEMANTIC}
 use Rattle.layout.specs.Shared.Types.{Kind, narrow, wide, long, integer, double, unknown, kindOf}
-use Rattle.layout.specs.Sheet.{Item}
-use Rattle.layout.specs.declared.SemanticValue.the-variants.{Other}
+use Rattle.layout.specs.Sheet.{Item as SheetItem}
+use Rattle.layout.specs.declared.SemanticValue.the-variants.{Refused}
 use borrow.Author.Tests.{ne-eqb, eqb-true}
 use lib.Dec.{eqb}
 use mathlib.Core.Bool.{Bool, true, false, cond, _||_}
@@ -29,6 +32,19 @@ by-tests false false false false false type n h = clash (cc)
 pub width : (type n : ℕ) → kindOf type ≡ integer n → type ≡ n
 width type n h = by-tests (eqb type 0 || eqb type 126) (eqb type 127) (eqb type 1 || eqb type 2 || eqb type 4) (eqb type 8) (eqb type 128) type n h
 
+-- a double's type is 8
+double-tests : (a b c d e : Bool) (type : ℕ) → eqb type 8 ≡ d → kindBy a b c d e type ≡ double → type ≡ 8
+double-tests true b c d e type t h = clash (cc)
+double-tests false true c d e type t h = clash (cc)
+double-tests false false true d e type t h = clash (cc)
+double-tests false false false true e type t h = eqb-true type 8 t
+double-tests false false false false true type t h = clash (cc)
+double-tests false false false false false type t h = clash (cc)
+
+pub double-width : (type : ℕ) → kindOf type ≡ double → type ≡ 8
+double-width type h =
+    double-tests (eqb type 0 || eqb type 126) (eqb type 127) (eqb type 1 || eqb type 2 || eqb type 4) (eqb type 8) (eqb type 128) type refl h
+
 -- and no more than four bytes
 by-width : (a b x y z d e : Bool) (type n : ℕ) → eqb type 1 ≡ x → eqb type 2 ≡ y → eqb type 4 ≡ z → kindBy a b (x || y || z) d e type ≡ integer n → type ≤ 4
 by-width a b true y z d e type n p q r h = omega (arith, eqb-true type 1 p)
@@ -45,16 +61,19 @@ integer-width type n h =
     let low = by-width (eqb type 0 || eqb type 126) (eqb type 127) (eqb type 1) (eqb type 2) (eqb type 4) (eqb type 8) (eqb type 128) type n refl refl refl h in
     omega (arith, low, width type n h)
 
--- a type that is no integer's
-by-others : (a b d e : Bool) (i : Item) → Other (i .type) ≡ valueIn (kindBy a b false d e (i .type)) i
-by-others true b d e i = refl
-by-others false true d e i = refl
-by-others false false true e i = refl
-by-others false false false true i = refl
-by-others false false false false i = refl
-
-pub other : (i : Item) → (i .type ≡ 1 → ⊥) → (i .type ≡ 2 → ⊥) → (i .type ≡ 4 → ⊥) → Other (i .type) ≡ semanticValue i
+-- a type that is none of the eight
+pub nothing : (i : SheetItem) → (i .type ≡ 1 → ⊥) → (i .type ≡ 2 → ⊥) → (i .type ≡ 4 → ⊥) → (i .type ≡ 8 → ⊥) → (i .type ≡ 0 → ⊥) → (i .type ≡ 126 → ⊥)
+    → (i .type ≡ 127 → ⊥) → (i .type ≡ 128 → ⊥) → semanticValue i ≡ Refused (refusal SEMANTIC (Item.type .place) 0)
 unfolding semanticValue
-other i h1 h2 h4 =
+nothing i h1 h2 h4 h8 h0 h126 h127 h128 =
     let type = i .type in
-    simp (ne-eqb type 1 h1, ne-eqb type 2 h2, ne-eqb type 4 h4) (by-others (eqb type 0 || eqb type 126) (eqb type 127) (eqb type 8) (eqb type 128) i)
+    rw (
+      ne-eqb type 0 h0,
+      ne-eqb type 126 h126,
+      ne-eqb type 127 h127,
+      ne-eqb type 1 h1,
+      ne-eqb type 2 h2,
+      ne-eqb type 4 h4,
+      ne-eqb type 8 h8,
+      ne-eqb type 128 h128,
+    )

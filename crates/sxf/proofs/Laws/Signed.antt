@@ -13,7 +13,7 @@ use mir.Syntax.{w64}
 use mir.Val.{toZ, ofZ}
 
 abbrev row : ℤ → ℤ → SxfValue
-row w p = record { number = 0; place = 0; year = 0; «is_number» = 1; whole = w; power = p }
+row w p = record { number = 0; place = 0; year = 0; kind = 5; bits = 0; whole = w; power = p }
 
 pub number-row : (v : SemanticValue) (d : Decimal) → v ≡ Number d → mag (d .whole) < 2 ^ 63 → mag (d .power) < 2 ^ 63
     → row (toZ w64 (ofZ w64 (d .whole))) (toZ w64 (ofZ w64 (d .power))) ≡ valueRow v

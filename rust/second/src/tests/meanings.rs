@@ -65,11 +65,26 @@ fn values() {
     assert_eq!(value(2, 0, 0x1234_8000), number(-32768, 0));
     assert_eq!(value(4, 0, 0x8000_0000), number(-2_147_483_648, 0));
     assert_eq!(value(4, 0, 0x7FFF_FFFF), number(2_147_483_647, 0));
+    assert_eq!(value(4, 0, 0x1234_5678_FFFF_FFFE), number(-2, 0));
     for kind in 0..=255 {
-        if [1, 2, 4].contains(&kind) {
-            assert_eq!(value(kind, 0x80, 5), Value::Refused(refused(12, 3)));
-        } else {
-            assert_eq!(value(kind, 0x80, 5), Value::Other);
+        let due = match kind {
+            1 | 2 | 4 => Value::Refused(refused(12, 3)),
+            0 | 126 | 127 | 128 => Value::Text,
+            8 => Value::Double(f64::from_bits(5)),
+            _ => Value::Refused(refused(12, 2)),
+        };
+        assert_eq!(value(kind, 0x80, 5), due);
+    }
+}
+
+#[test]
+fn values_of_type_8() {
+    for scale in [0, 1, 0x7F, 0x80, 0xFF] {
+        assert_eq!(value(8, scale, 0x3FF0_0000_0000_0000), Value::Double(1.0));
+        assert_eq!(value(8, scale, 0xFFF0_0000_0000_0000), Value::Double(f64::NEG_INFINITY));
+        assert!(matches!(value(8, scale, 1 << 63), Value::Double(zero) if zero == 0.0 && zero.is_sign_negative()));
+        for nan in [0x7FF0_0000_0000_0001, 0x7FF8_0000_0000_0000, 0xFFF0_0000_0000_0001, u64::MAX] {
+            assert_eq!(value(8, scale, nan), Value::NotNumber(nan));
         }
     }
 }

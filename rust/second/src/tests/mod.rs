@@ -1,5 +1,6 @@
 //! Document 01's sheets and cases, and what follows from its rules.
 
+mod coordinates;
 mod limits;
 mod meanings;
 mod random;

@@ -40,6 +40,8 @@ pub const EPSG: Field = Field::new(100, 4);
 pub const CORNERS: Field = Field::new(104, 64);
 /// In the rest: "in metres, radians or degrees as +236 is 0, 64 or 65".
 pub const UNIT: Field = Field::new(236, 1);
+/// In the rest: the unit of heights, 0 for metres (000, table 1).
+pub const HEIGHT_UNIT: Field = Field::new(237, 1);
 /// In the rest: "+312 signed resolution".
 pub const RESOLUTION: Field = Field::new(312, 4);
 /// In the rest: the first of "+384 and +392 north and east offsets".

@@ -1,5 +1,6 @@
 //! Everything that is asked of a sheet.
 
+use super::meanings::unit_numbers;
 use super::{hex, refusal_of, table_sizes, Care, Judge, TOLD};
 use crate::archive;
 use crate::numbers::Numbers;
@@ -7,7 +8,7 @@ use crate::reasons;
 use crate::tally::{Call, Reason, Way, Where};
 use second::{Reading, Refusal, Sizes, Table};
 use sxf_sys::fields::passport::CORNERS;
-use sxf_sys::{refusals, units};
+use sxf_sys::refusals;
 
 impl Judge {
     /// Reads a sheet at several years; the first says whether the case is
@@ -51,6 +52,7 @@ impl Judge {
             self.head_of(sheet, year, &due);
             if let Ok(reading) = &due {
                 self.writes_back(sheet, year, reading);
+                self.meanings_of(reading);
             }
         }
         due.is_ok()
@@ -178,14 +180,7 @@ impl Judge {
         self.meet(Call::UnitOf, answer.number);
         let due = second::unit(sheet, year);
         let refusal = refusal_of(&due);
-        let (unit, byte) = match due {
-            Ok(second::Unit::DevicePoints) => (units::DEVICE_POINTS, 0),
-            Ok(second::Unit::Metres) => (units::METRES, 0),
-            Ok(second::Unit::Radians) => (units::RADIANS, 0),
-            Ok(second::Unit::Degrees) => (units::DEGREES, 0),
-            Ok(second::Unit::Unknown(byte)) => (units::UNKNOWN_UNIT, u64::from(byte)),
-            Err(_) => (0, 0),
-        };
+        let (unit, byte) = due.map_or((0, 0), unit_numbers);
         let expected = archive::Unit { number: refusal.number, place: refusal.place, year: refusal.year, unit, byte };
         self.met.units[unit as usize] = 1;
         self.same(|| format!("unit at {year}"), answer, expected);
