@@ -1,4 +1,4 @@
-# Read by .ci/across and .ci/within: how an edit is applied. An edit has 'file:' lines, each for the 'old:' and 'new:' pairs after it.
+# Read by .ci/across: how an edit is applied. An edit has 'file:' lines, each for the 'old:' and 'new:' pairs after it.
 
 # Replaces the text OLD, which must stand in FILE once, by NEW.
 replace() { # FILE OLD NEW
