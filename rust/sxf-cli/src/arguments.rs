@@ -1,9 +1,8 @@
 //! The command line.
-use crate::failure::told;
+use crate::failure::Failure;
 use clap::error::ErrorKind;
-use clap::{Parser, Subcommand};
+use clap::{Args, Parser, Subcommand};
 use std::path::PathBuf;
-use std::process::ExitCode;
 use sxf::Setting;
 
 /// Sheets of SXF 4.0, read and written by the proved library.
@@ -11,7 +10,7 @@ use sxf::Setting;
 /// FILE may be - for standard input. A refusal is told by number, name, place and meaning. Exit status: 0 accepted or done, 1 refused, 2 usage,
 /// input or output.
 #[derive(Parser)]
-#[command(name = "sxf", version)]
+#[command(name = "sxf", version, after_help = format!("The settings: {}.", nine_years()))]
 struct Arguments {
     #[command(subcommand)]
     command: Command,
@@ -30,9 +29,8 @@ pub enum Command {
     Check {
         /// The sheet
         file: PathBuf,
-        /// The setting, one of nine years
-        #[arg(long, value_name = "Y", default_value = "2017", value_parser = setting)]
-        year: Setting,
+        #[command(flatten)]
+        at: AtYear,
     },
     /// Show a sheet, or one record of it, for people
     Show {
@@ -41,20 +39,19 @@ pub enum Command {
         /// Only this record, by its number from 0
         #[arg(long, value_name = "N")]
         record: Option<usize>,
-        /// The setting, one of nine years
-        #[arg(long, value_name = "Y", default_value = "2017", value_parser = setting)]
-        year: Setting,
+        #[command(flatten)]
+        at: AtYear,
     },
     /// Print head and record table as JSON lines
     ///
-    /// The first line is the head, then comes a line for each record. Texts, values and carried bytes are strings of hexadecimal digits,
-    /// elements are their stored bits, and all other numbers are as in the record table. `sxf write` takes these lines.
+    /// The first line is the head, then comes a line for each record. Texts, values and carried bytes are strings of hexadecimal digits;
+    /// elements are numbers, and those that decimals do not carry safely are strings with their bits; all other numbers are integers. No tool
+    /// spoils these lines that keeps doubles, and `sxf write` takes them.
     Table {
         /// The sheet
         file: PathBuf,
-        /// The setting, one of nine years
-        #[arg(long, value_name = "Y", default_value = "2017", value_parser = setting)]
-        year: Setting,
+        #[command(flatten)]
+        at: AtYear,
     },
     /// Write a sheet from JSON lines as `sxf table` prints them
     ///
@@ -62,12 +59,14 @@ pub enum Command {
     Write {
         /// The JSON lines
         json: PathBuf,
-        /// The sheet to write
+        /// The sheet to write, or - for standard output
         #[arg(short, long, value_name = "FILE")]
         output: PathBuf,
-        /// The setting, one of nine years
-        #[arg(long, value_name = "Y", default_value = "2017", value_parser = setting)]
-        year: Setting,
+        /// Replace a file that is there, if it has write permission
+        #[arg(long)]
+        force: bool,
+        #[command(flatten)]
+        at: AtYear,
     },
     /// Tell from which year on a sheet is accepted, and which features older settings refuse it for
     Years {
@@ -76,25 +75,41 @@ pub enum Command {
     },
 }
 
-fn setting(year: &str) -> Result<Setting, String> {
-    let year = year.parse().map_err(|_| "not a year".to_string())?;
-    Setting::new(year).map_err(|refusal| refusal.to_string())
+#[derive(Args)]
+pub struct AtYear {
+    #[arg(long, value_name = "Y", default_value = "2017", value_parser = setting, help = format!("The setting: {}", nine_years()))]
+    pub year: Setting,
 }
 
-/// The command, or the exit status where there is none: help was asked for, or the command line is wrong.
-pub fn parse() -> Result<Command, ExitCode> {
-    Arguments::try_parse().map(|arguments| arguments.command).map_err(|error| {
-        if matches!(error.kind(), ErrorKind::DisplayHelp | ErrorKind::DisplayVersion) {
-            // Help that cannot be printed has nobody to read it.
-            let _ = error.print();
-            return ExitCode::SUCCESS;
-        }
-        let what = match error.kind() {
-            ErrorKind::DisplayHelpOnMissingArgumentOrSubcommand => "no command is given".to_string(),
-            _ => one_line(&error.to_string()),
-        };
-        told(&format!("{what}; see sxf --help"), 2)
-    })
+/// The nine years, as help and refusal name them.
+fn nine_years() -> String {
+    Setting::ALL.map(|setting| setting.to_string()).join(", ")
+}
+
+fn setting(year: &str) -> Result<Setting, String> {
+    let nine = format!("the settings are {}", nine_years());
+    let year = year.parse().map_err(|_| format!("not a year; {nine}"))?;
+    Setting::new(year).map_err(|refusal| refusal.meaning_here(format!("the year asked for is none of the nine; {nine}")))
+}
+
+/// What the command line asks for.
+pub enum Asked {
+    Command(Command),
+    /// Help or version, as it is to be printed.
+    Help(String),
+}
+
+pub fn parse() -> Result<Asked, Failure> {
+    let error = match Arguments::try_parse() {
+        Ok(arguments) => return Ok(Asked::Command(arguments.command)),
+        Err(error) => error,
+    };
+    let what = match error.kind() {
+        ErrorKind::DisplayHelp | ErrorKind::DisplayVersion => return Ok(Asked::Help(error.to_string())),
+        ErrorKind::DisplayHelpOnMissingArgumentOrSubcommand => "no command is given".to_string(),
+        _ => one_line(&error.to_string()),
+    };
+    Err(Failure::Trouble(format!("{what}; see sxf --help")))
 }
 
 /// What is wrong, without the usage that follows after an empty line.

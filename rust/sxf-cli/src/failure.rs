@@ -19,8 +19,17 @@ impl Failure {
         Failure::Refused(format!("{}: {refusal}", file.display()))
     }
 
+    /// A refusal with a meaning that it has here.
+    pub fn refused_here(file: &Path, refusal: Refusal, meaning: impl Display) -> Failure {
+        Failure::Refused(format!("{}: {}", file.display(), refusal.meaning_here(meaning)))
+    }
+
     pub fn trouble(file: &Path, what: impl Display) -> Failure {
         Failure::Trouble(format!("{}: {what}", file.display()))
+    }
+
+    pub fn standard_output(error: io::Error) -> Failure {
+        Failure::Trouble(format!("standard output: {error}"))
     }
 
     pub fn tell(self) -> ExitCode {
@@ -33,9 +42,18 @@ impl Failure {
 }
 
 /// Prints one line on standard error. Where even that fails, the exit status alone says what happened.
-pub fn told(line: &str, status: u8) -> ExitCode {
-    let _ = writeln!(io::stderr(), "sxf: {line}");
+fn told(line: &str, status: u8) -> ExitCode {
+    let _ = writeln!(io::stderr(), "sxf: {}", line.chars().map(visible).collect::<String>());
     ExitCode::from(status)
+}
+
+/// A name of a file or a string of a JSON line may have line ends and what else a terminal acts on; they are shown as escapes.
+fn visible(character: char) -> String {
+    if character.is_control() {
+        character.escape_default().to_string()
+    } else {
+        character.to_string()
+    }
 }
 
 /// An error on standard output: errors of other files are given the file's name where they arise.
@@ -43,7 +61,7 @@ impl From<io::Error> for Failure {
     fn from(error: io::Error) -> Failure {
         match error.kind() {
             io::ErrorKind::BrokenPipe => Failure::Gone,
-            _ => Failure::Trouble(format!("standard output: {error}")),
+            _ => Failure::standard_output(error),
         }
     }
 }

@@ -1,21 +1,29 @@
 //! The JSON lines of `sxf table` and `sxf write`: first the head, then a line for each record.
 //!
-//! Bytes are strings of hexadecimal digits. Elements are their stored bits, and the other numbers are those of the record table, all of them
-//! integers of 64 bits. Parts, items, text lengths and value lengths are counted from what is there.
+//! Bytes are strings of hexadecimal digits. Elements are numbers (element.rs), and the other numbers are those of the record table, all of them
+//! integers below 2^53. Points, parts, items, text lengths and value lengths are counted from what is there.
+use crate::element::whole;
+use crate::points::Points;
 use serde::de::{self, Deserializer, Visitor};
 use serde::{Deserialize, Serialize, Serializer};
 use std::borrow::Cow;
 use std::fmt;
 
-/// What `sxf` says in a head's line: the edition of the format.
+/// What `sxf` says in a head's line: the edition of the sheet's format.
 pub const EDITION: &str = "4.0";
+
+/// What `format` says in a head's line: the format of these lines. The first had no such number, and had elements as stored bits.
+pub const FORMAT: u64 = 2;
 
 #[derive(Serialize, Deserialize)]
 #[serde(deny_unknown_fields)]
 pub struct HeadLine<'a> {
     pub sxf: Cow<'a, str>,
+    #[serde(deserialize_with = "whole")]
+    pub format: u64,
     pub date: Hex<'a>,
     pub designation: Hex<'a>,
+    #[serde(deserialize_with = "whole")]
     pub scale: u32,
     pub title: Hex<'a>,
     /// The 304 bytes of the passport from +96 on.
@@ -26,21 +34,29 @@ pub struct HeadLine<'a> {
     #[serde(rename = "flags")]
     pub carried: Hex<'a>,
     /// How many lines follow, so that a table that was cut is not written. It may be left out.
-    #[serde(default, skip_serializing_if = "Option::is_none")]
+    #[serde(default, deserialize_with = "some_whole", skip_serializing_if = "Option::is_none")]
     pub records: Option<u64>,
+}
+
+fn some_whole<'de, D: Deserializer<'de>>(deserializer: D) -> Result<Option<u64>, D::Error> {
+    whole(deserializer).map(Some)
 }
 
 #[derive(Serialize, Deserialize)]
 #[serde(deny_unknown_fields)]
 pub struct RecordLine<'a> {
+    #[serde(deserialize_with = "whole")]
     pub code: u64,
-    #[serde(rename = "number_in_group")]
+    #[serde(rename = "number_in_group", deserialize_with = "whole")]
     pub in_group: u64,
-    #[serde(rename = "group_number")]
+    #[serde(rename = "group_number", deserialize_with = "whole")]
     pub group: u64,
     /// Bytes 20 to 22 as one number, byte 20 lowest.
+    #[serde(deserialize_with = "whole")]
     pub reference: u64,
+    #[serde(deserialize_with = "whole")]
     pub generalisation: u64,
+    #[serde(deserialize_with = "whole")]
     pub word: u64,
     pub parts: Vec<PartLine<'a>>,
     pub items: Vec<ItemLine<'a>>,
@@ -49,9 +65,7 @@ pub struct RecordLine<'a> {
 #[derive(Serialize, Deserialize)]
 #[serde(deny_unknown_fields)]
 pub struct PartLine<'a> {
-    pub points: u64,
-    /// Two or three to a point.
-    pub elements: Cow<'a, [u64]>,
+    pub points: Points,
     /// Without its closing zero; empty, or left out, without the text bit.
     #[serde(default, skip_serializing_if = "Hex::is_empty")]
     pub text: Hex<'a>,
@@ -60,9 +74,11 @@ pub struct PartLine<'a> {
 #[derive(Serialize, Deserialize)]
 #[serde(deny_unknown_fields)]
 pub struct ItemLine<'a> {
+    #[serde(deserialize_with = "whole")]
     pub code: u64,
-    #[serde(rename = "type")]
+    #[serde(rename = "type", deserialize_with = "whole")]
     pub kind: u64,
+    #[serde(deserialize_with = "whole")]
     pub scale: u64,
     /// With its closing zeros.
     pub value: Hex<'a>,

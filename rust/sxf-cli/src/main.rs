@@ -6,39 +6,48 @@
 
 mod arguments;
 mod check;
+mod element;
 mod failure;
 mod input;
 mod json;
+mod lines;
 mod list;
 mod output;
+mod points;
 mod show;
+mod standard;
 mod table;
 mod write;
 mod years;
 
-use arguments::Command;
+use arguments::{Asked, Command};
 use failure::Failure;
-use std::io::{self, BufWriter, Write};
+use output::Target;
+use standard::StandardOutput;
+use std::io::{BufWriter, Write};
 use std::process::ExitCode;
 
-fn run(command: &Command, out: &mut dyn Write) -> Result<(), Failure> {
+fn run(out: &mut dyn Write) -> Result<(), Failure> {
+    match &arguments::parse()? {
+        Asked::Help(text) => Ok(out.write_all(text.as_bytes())?),
+        Asked::Command(command) => done(command, out),
+    }
+}
+
+fn done(command: &Command, out: &mut dyn Write) -> Result<(), Failure> {
     match command {
         Command::List { file } => list::run(file, out),
-        Command::Check { file, year } => check::run(file, *year, out),
-        Command::Show { file, record, year } => show::run(file, *record, *year, out),
-        Command::Table { file, year } => table::run(file, *year, out),
-        Command::Write { json, output, year } => write::run(json, output, *year),
+        Command::Check { file, at } => check::run(file, at.year, out),
+        Command::Show { file, record, at } => show::run(file, *record, at.year, out),
+        Command::Table { file, at } => table::run(file, at.year, out),
+        Command::Write { json, output: file, force, at } => write::run(json, &Target { file, force: *force }, at.year, out),
         Command::Years { file } => years::run(file, out),
     }
 }
 
 fn main() -> ExitCode {
-    let command = match arguments::parse() {
-        Ok(command) => command,
-        Err(status) => return status,
-    };
-    let mut out = BufWriter::new(io::stdout().lock());
-    let done = run(&command, &mut out);
+    let mut out = BufWriter::new(StandardOutput::new());
+    let done = run(&mut out);
     // What was printed before a failure is printed all the same, and first.
     let flushed = out.flush().map_err(Failure::from);
     match done.and(flushed) {

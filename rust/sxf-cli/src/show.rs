@@ -3,22 +3,32 @@ use crate::failure::Failure;
 use crate::input;
 use std::io::Write;
 use std::path::Path;
-use sxf::{Corners, ElementKind, Head, Item, Number, Part, Point, Record, Setting, Sheet, Text, Value};
+use sxf::{Corners, Head, Item, Number, Part, Point, Record, Setting, Sheet, Text, Value};
 
 pub fn run(file: &Path, number: Option<usize>, setting: Setting, out: &mut dyn Write) -> Result<(), Failure> {
     let bytes = input::bytes(file)?;
     let sheet = input::sheet(file, &bytes, setting)?;
     let refused = |refusal| Failure::refused(file, refusal);
     match number {
-        Some(number) => record(&sheet.record(number).map_err(refused)?, out),
+        Some(number) => {
+            let none = || format!("there is no record {number}; the sheet has {}, counted from 0", sheet.record_count());
+            let asked = sheet.record(number).map_err(|refusal| Failure::refused_here(file, refusal, none()))?;
+            record(&asked, Some(&units(&sheet, &asked)), out)
+        }
         None => {
             writeln!(out, "sheet of {} bytes, sum {}, accepted at {setting}", bytes.len(), sheet.sum())?;
             head(&sheet, &sheet.head().map_err(refused)?, out)?;
             corners(&sheet.corners().map_err(refused)?, out)?;
             writeln!(out, "records            {}", sheet.record_count())?;
-            sheet.records().try_for_each(|r| record(&r, out))
+            sheet.records().try_for_each(|each| record(&each, None, out))
         }
     }
+}
+
+/// The units of a record's points, for one that is shown without its sheet's head.
+fn units(sheet: &Sheet<'_>, record: &Record<'_>) -> String {
+    let heights = format!(", unit of heights {}", sheet.height_unit());
+    format!("unit {}{}", sheet.unit(), if record.reference().three_dimensions() { &heights } else { "" })
 }
 
 fn head(sheet: &Sheet<'_>, head: &Head<'_>, out: &mut dyn Write) -> Result<(), Failure> {
@@ -59,11 +69,14 @@ fn yes(flag: bool) -> &'static str {
     }
 }
 
-fn record(record: &Record<'_>, out: &mut dyn Write) -> Result<(), Failure> {
+fn record(record: &Record<'_>, units: Option<&str>, out: &mut dyn Write) -> Result<(), Failure> {
     let (number, place, length) = (record.number(), record.place(), record.total());
     writeln!(out, "record {number} at {place} ({place:#x}), {length} bytes")?;
     writeln!(out, "  code {}, group {}, number in group {}", record.code(), record.group(), record.in_group())?;
     writeln!(out, "  {}", reference(record))?;
+    if let Some(units) = units {
+        writeln!(out, "  {units}")?;
+    }
     writeln!(out, "  visibility {}", record.visibility())?;
     if record.word() != 0 {
         writeln!(out, "  word at +24 {}", record.word())?;
@@ -75,13 +88,7 @@ fn record(record: &Record<'_>, out: &mut dyn Write) -> Result<(), Failure> {
 fn reference(record: &Record<'_>) -> String {
     let reference = record.reference();
     let localisation = reference.localisation().map_or("unknown localisation".to_string(), |known| known.to_string());
-    let elements = match reference.planar() {
-        ElementKind::Short => "integers of 2 bytes",
-        ElementKind::Long => "integers of 4 bytes",
-        ElementKind::Single => "floating numbers of 4 bytes",
-        ElementKind::Double => "floating numbers of 8 bytes",
-    };
-    let mut words = vec![localisation, elements.to_string()];
+    let mut words = vec![localisation, reference.planar().to_string()];
     let told_above = ["large elements", "floating"];
     words.extend(reference.words().filter(|word| !told_above.contains(word)).map(str::to_string));
     if reference.spline() != 0 {
@@ -112,11 +119,27 @@ fn item(number: usize, item: &Item<'_>, out: &mut dyn Write) -> Result<(), Failu
     write!(out, "  item {number}, code {}, type {}, scale byte {}: ", item.code, item.kind, item.scale)?;
     match item.value() {
         Value::Text(each) => writeln!(out, "{}", text(&each))?,
-        Value::Decimal { whole, power } => writeln!(out, "{whole}e{power}")?,
+        Value::Decimal { whole, power } => writeln!(out, "{}", decimal(whole, power))?,
         Value::Double(number) => writeln!(out, "{number}")?,
         Value::Unread => writeln!(out, "{:02x?}", item.bytes)?,
     }
     Ok(())
+}
+
+/// whole × 10^power with all its digits: 127.3.
+fn decimal(whole: i64, power: i64) -> String {
+    let (sign, digits) = (if whole < 0 { "-" } else { "" }, whole.unsigned_abs().to_string());
+    let shift = power.unsigned_abs() as usize;
+    match power {
+        0.. if whole == 0 => digits,
+        0.. => format!("{sign}{digits}{}", "0".repeat(shift)),
+        _ => {
+            // At least one digit stands before the point.
+            let digits = format!("{digits:0>least$}", least = shift + 1);
+            let (before, after) = digits.split_at(digits.len() - shift);
+            format!("{sign}{before}.{after}")
+        }
+    }
 }
 
 fn text(text: &Text<'_>) -> String {
@@ -130,4 +153,28 @@ fn text(text: &Text<'_>) -> String {
 /// Bytes in quotation marks. Those that are not printable ASCII are shown as \xNN: which characters they stand for depends on the coding.
 fn quoted(bytes: &[u8]) -> String {
     format!("\"{}\"", bytes.escape_ascii())
+}
+
+#[cfg(test)]
+mod tests {
+    use super::decimal;
+
+    #[test]
+    fn decimals_have_all_their_digits() {
+        let stated = [
+            (1273, -1, "127.3"),
+            (-1273, -4, "-0.1273"),
+            (-5, -1, "-0.5"),
+            (1270, -1, "127.0"),
+            (0, -2, "0.00"),
+            (7, 0, "7"),
+            (-7, 3, "-7000"),
+            (0, 127, "0"),
+        ];
+        for (whole, power, told) in stated {
+            assert_eq!(decimal(whole, power), told);
+        }
+        assert_eq!(decimal(1, -127), format!("0.{}1", "0".repeat(126)));
+        assert_eq!(decimal(i64::MIN, 0), i64::MIN.to_string());
+    }
 }

@@ -1,12 +1,13 @@
 //! `sxf table`: head and record table as JSON lines.
 use crate::failure::Failure;
 use crate::input;
-use crate::json::{HeadLine, Hex, ItemLine, PartLine, RecordLine, EDITION};
+use crate::json::{HeadLine, Hex, ItemLine, PartLine, RecordLine, EDITION, FORMAT};
+use crate::points::Points;
 use serde::Serialize;
 use std::borrow::Cow;
 use std::io::{self, Write};
 use std::path::Path;
-use sxf::{Head, Item, Part, Record, Setting};
+use sxf::{Head, Item, Part, Record, Reference, Setting};
 
 pub fn run(file: &Path, setting: Setting, out: &mut dyn Write) -> Result<(), Failure> {
     let bytes = input::bytes(file)?;
@@ -25,6 +26,7 @@ fn line(line: &impl Serialize, out: &mut dyn Write) -> Result<(), Failure> {
 fn head_line<'a>(head: &Head<'a>, records: usize) -> HeadLine<'a> {
     HeadLine {
         sxf: Cow::Borrowed(EDITION),
+        format: FORMAT,
         date: Hex::of(head.date),
         designation: Hex::of(head.designation),
         scale: head.scale,
@@ -44,17 +46,13 @@ fn record_line<'a>(record: &Record<'a>) -> RecordLine<'a> {
         reference: record.reference().0.into(),
         generalisation: record.generalisation().into(),
         word: record.word().into(),
-        parts: record.parts().map(|part| part_line(&part)).collect(),
+        parts: record.parts().map(|part| part_line(record.reference(), &part)).collect(),
         items: record.items().map(|item| item_line(&item)).collect(),
     }
 }
 
-fn part_line<'a>(part: &Part<'a>) -> PartLine<'a> {
-    PartLine {
-        points: part.points().len() as u64,
-        elements: Cow::Borrowed(part.elements()),
-        text: Hex::of(part.text().map_or(&[], |text| text.bytes)),
-    }
+fn part_line<'a>(reference: Reference, part: &Part<'a>) -> PartLine<'a> {
+    PartLine { points: Points::of(reference, part.elements()), text: Hex::of(part.text().map_or(&[], |text| text.bytes)) }
 }
 
 fn item_line<'a>(item: &Item<'a>) -> ItemLine<'a> {

@@ -1,91 +1,81 @@
 //! `sxf write`: a sheet from JSON lines.
 use crate::failure::Failure;
-use crate::json::{HeadLine, ItemLine, PartLine, RecordLine, EDITION};
-use crate::{input, output};
-use serde::de::DeserializeOwned;
-use std::io::{BufRead, BufReader, Read};
+use crate::input;
+use crate::json::{HeadLine, ItemLine, PartLine, RecordLine, EDITION, FORMAT};
+use crate::lines::Lines;
+use crate::output::{self, Target};
+use serde_json::Value;
+use std::io::{Read, Write};
 use std::path::Path;
 use sxf::fields::{descriptor, passport};
 use sxf::row;
 use sxf::writer::check_head;
-use sxf::{Head, Reference, Refusal, Setting, Table, LIMIT};
+use sxf::{Head, Reference, Refusal, Setting, Table};
 
-/// More than the lines of any sheet take: a part of no points has 4 bytes in a sheet and about 40 in its line, an item 5 and about 50.
-const LONGEST: u64 = 32 * LIMIT as u64;
-
-pub fn run(json: &Path, file: &Path, setting: Setting) -> Result<(), Failure> {
-    let (head, lines) = tables(json)?;
+pub fn run(json: &Path, target: &Target<'_>, setting: Setting, out: &mut dyn Write) -> Result<(), Failure> {
+    let (head, records) = head_and_records(json)?;
     let head = head_of(&head).map_err(|what| Failure::trouble(json, format!("the head: {what}")))?;
-    let sheet = sxf::write(&head, lines.table.lend(), setting).map_err(|refusal| told(json, &head, &lines, setting, refusal))?;
-    output::whole(file, &sheet)
+    let sheet =
+        sxf::write(&head, records.table.lend(), setting).map_err(|refusal| told(json, &head, &records, setting, refusal))?;
+    output::whole(target, &sheet, out)
 }
 
 /// The refusal with the line of the JSON that it is about.
-fn told(json: &Path, head: &Head<'_>, lines: &Lines, setting: Setting, refusal: Refusal) -> Failure {
+fn told(json: &Path, head: &Head<'_>, records: &Records, setting: Setting, refusal: Refusal) -> Failure {
     let whole = [Refusal::TOO_LONG, Refusal::ROOM, Refusal::ASK].contains(&refusal.number);
     let place = if whole {
         String::new()
     } else if check_head(head, setting).is_err() {
         " (the head; the place is the sheet's)".to_string()
     } else {
-        lines.place(refusal.place)
+        records.place(refusal.place)
     };
     Failure::Refused(format!("{}: {refusal}{place}", json.display()))
 }
 
-/// The table, and which line each of its records was in.
+/// The table, and the first line of each of its records.
 #[derive(Default)]
-struct Lines {
+struct Records {
     table: Table,
-    numbers: Vec<usize>,
+    lines: Vec<usize>,
 }
 
-impl Lines {
+impl Records {
     fn place(&self, index: usize) -> String {
         let spot = self.table.lend().spot(index);
-        match spot.and_then(|spot| Some((spot, self.numbers.get(spot.record)?))) {
+        match spot.and_then(|spot| Some((spot, self.lines.get(spot.record)?))) {
             Some((spot, line)) => format!(" (line {line}, {spot})"),
             None => " (an index of the record table)".to_string(),
         }
     }
 
+    /// Adds a record's row and what it has in the pools. The numbers are the line's, also where they are too large for their fields: the
+    /// library refuses such a table, and says where.
     fn push(&mut self, line: usize, record: &RecordLine<'_>) -> Result<(), String> {
+        let &RecordLine { code, in_group, group, reference, generalisation, word, .. } = record;
+        let (parts, items) = (record.parts.len() as u64, record.items.len() as u64);
+        let row = row::Record { code, in_group, group, reference, generalisation, word, parts, items };
+        self.lines.push(line);
+        self.table.numbers.extend(row.numbers());
         for (number, part) in record.parts.iter().enumerate() {
-            agrees(record.reference, part).map_err(|what| format!("part {number}: {what}"))?;
+            self.push_part(reference, part).map_err(|what| format!("part {number}: {what}"))?;
         }
-        self.numbers.push(line);
-        push(&mut self.table, record);
+        for &ItemLine { code, kind, scale, ref value } in &record.items {
+            self.table.numbers.extend(row::Item { code, kind, scale, length: value.0.len() as u64 }.numbers());
+            self.table.bytes.extend_from_slice(&value.0);
+        }
         Ok(())
     }
-}
 
-/// Whether a part has as many elements as its points call for. The pool has no bounds between parts, so that an element too many would go to
-/// the next part, and one too few would be taken from it.
-fn agrees(reference: u64, part: &PartLine<'_>) -> Result<(), String> {
-    // A number too large for the reference bytes is refused by the library before it looks at any point.
-    let Some(reference) = u32::try_from(reference).ok().map(Reference) else { return Ok(()) };
-    let each = reference.elements() as u64;
-    match part.points.checked_mul(each) {
-        Some(called_for) if called_for == part.elements.len() as u64 => Ok(()),
-        _ => Err(format!("{} elements, where {} points have {each} each", part.elements.len(), part.points)),
-    }
-}
-
-/// Adds a record's row and what it has in the pools. The numbers are the line's, also where they are too large for their fields: the library
-/// refuses such a table, and says where.
-fn push(table: &mut Table, record: &RecordLine<'_>) {
-    let &RecordLine { code, in_group, group, reference, generalisation, word, .. } = record;
-    let (parts, items) = (record.parts.len() as u64, record.items.len() as u64);
-    table.numbers.extend(row::Record { code, in_group, group, reference, generalisation, word, parts, items }.numbers());
-    for part in &record.parts {
+    fn push_part(&mut self, reference: u64, part: &PartLine<'_>) -> Result<(), String> {
         let text = &part.text.0;
-        table.numbers.extend(row::Part { points: part.points, text_length: text.len() as u64 }.numbers());
-        table.elements.extend_from_slice(&part.elements);
-        table.bytes.extend_from_slice(text);
-    }
-    for &ItemLine { code, kind, scale, ref value } in &record.items {
-        table.numbers.extend(row::Item { code, kind, scale, length: value.0.len() as u64 }.numbers());
-        table.bytes.extend_from_slice(&value.0);
+        self.table.numbers.extend(row::Part { points: part.points.len() as u64, text_length: text.len() as u64 }.numbers());
+        self.table.bytes.extend_from_slice(text);
+        // A number too large for the reference bytes is refused by the library before it looks at any point.
+        if let Ok(reference) = u32::try_from(reference) {
+            self.table.elements.extend(part.points.bits(Reference(reference))?);
+        }
+        Ok(())
     }
 }
 
@@ -106,48 +96,49 @@ fn head_of<'a>(line: &'a HeadLine<'_>) -> Result<Head<'a>, String> {
     })
 }
 
-/// The head's line and the records' lines. Empty lines are passed over.
-fn tables(json: &Path) -> Result<(HeadLine<'static>, Lines), Failure> {
-    let mut input = BufReader::new(input::open(json)?.take(LONGEST));
-    let mut head = None;
-    let mut lines = Lines::default();
-    let mut buffer = Vec::new();
-    for line in 1.. {
-        buffer.clear();
-        if input.read_until(b'\n', &mut buffer).map_err(|error| Failure::trouble(json, error))? == 0 {
-            break;
-        }
-        if input.get_ref().limit() == 0 {
-            return Err(Failure::trouble(json, format!("{LONGEST} bytes or more, which is longer than the lines of any sheet")));
-        }
-        if buffer.trim_ascii().is_empty() {
-            continue;
-        }
-        let taken = match head {
-            None => parsed(&buffer).map(|parsed: HeadLine<'static>| head = Some(parsed)),
-            Some(_) => parsed(&buffer).and_then(|record: RecordLine<'static>| lines.push(line, &record)),
-        };
-        taken.map_err(|what| Failure::trouble(json, format!("line {line}: {what}")))?;
-    }
-    let head = head.ok_or_else(|| Failure::trouble(json, "no line, where the head should be"))?;
-    complete(&head, &lines).map_err(|what| Failure::trouble(json, what))?;
-    Ok((head, lines))
+/// The head's line and the records' lines.
+fn head_and_records(json: &Path) -> Result<(HeadLine<'static>, Records), Failure> {
+    let mut lines = Lines::new(input::open(json)?);
+    taken(&mut lines).map_err(|what| Failure::trouble(json, what))
 }
 
-/// Whether there are as many records as the head says, if it says so.
-fn complete(head: &HeadLine<'_>, lines: &Lines) -> Result<(), String> {
-    let found = lines.numbers.len();
+fn taken<R: Read>(lines: &mut Lines<R>) -> Result<(HeadLine<'static>, Records), String> {
+    if !lines.next()? {
+        return Err("no line, where the head should be".to_string());
+    }
+    let head = head_line(lines)?;
+    let mut records = Records::default();
+    while lines.next()? {
+        let record = record_line(lines)?;
+        records.push(lines.first(), &record).map_err(|what| lines.told(&what))?;
+    }
+    let found = records.lines.len();
     match head.records {
-        Some(records) if records != found as u64 => Err(format!("records are {found}, where the head says {records}")),
-        _ => Ok(()),
+        Some(stated) if stated != found as u64 => Err(format!("records are {found}, where the head says {stated}")),
+        _ => Ok((head, records)),
     }
 }
 
-/// Parses one line. The line number that the parser gives is left out: it counts within what it is given, which is this line alone.
-fn parsed<T: DeserializeOwned>(line: &[u8]) -> Result<T, String> {
-    serde_json::from_slice(line).map_err(|error| {
-        let told = error.to_string();
-        let what = told.split(" at line ").next().unwrap_or(&told);
-        format!("column {}: {what}", error.column())
-    })
+/// What is told of a line of the first format.
+const OLD_KIND: &str =
+    "a line of the old kind, whose elements are stored bits, which tools round; print it again from its sheet by this \
+                        `sxf table`, or, where only the lines are left, write the sheet by the sxf that printed them";
+
+/// The head, if it is of this format: in another one its fields may be others.
+fn head_line<R: Read>(lines: &Lines<R>) -> Result<HeadLine<'static>, String> {
+    let head: Value = lines.parsed()?;
+    match head.get("format") {
+        None if head.get("sxf").is_some() => Err(lines.told(OLD_KIND)),
+        Some(format) if format.as_f64() != Some(FORMAT as f64) => {
+            Err(lines.told(&format!("format is {format}, where this reads {FORMAT}; write the sheet by the sxf that printed it")))
+        }
+        _ => lines.parsed(),
+    }
+}
+
+/// A record. One of the first format, which may stand under a head of this one, has the elements of its parts under a name of their own.
+fn record_line<R: Read>(lines: &Lines<R>) -> Result<RecordLine<'static>, String> {
+    let is_old =
+        |record: Value| record["parts"].as_array().is_some_and(|parts| parts.iter().any(|part| part.get("elements").is_some()));
+    lines.parsed().map_err(|what| if lines.parsed().is_ok_and(is_old) { lines.told(OLD_KIND) } else { what })
 }

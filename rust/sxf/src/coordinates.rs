@@ -412,6 +412,18 @@ impl ElementKind {
     }
 }
 
+impl fmt::Display for ElementKind {
+    /// The elements of this kind, all of them: `integers of 2 bytes`.
+    fn fmt(&self, f: &mut fmt::Formatter<'_>) -> fmt::Result {
+        f.write_str(match self {
+            ElementKind::Short => "integers of 2 bytes",
+            ElementKind::Long => "integers of 4 bytes",
+            ElementKind::Single => "floating numbers of 4 bytes",
+            ElementKind::Double => "floating numbers of 8 bytes",
+        })
+    }
+}
+
 #[cfg(test)]
 mod tests {
     use super::*;

@@ -54,7 +54,7 @@ named! {
     SHORT "SHORT" "the sheet, or what is left of it for a record, is too short"
     NOT_SXF "NOT SXF" "an identifier differs, so this is no SXF sheet or it is damaged here"
     EDITION "EDITION" "a fixed length or the edition is not that of SXF 4.0"
-    SUM "SUM" "the sum of the sheet's bytes is not the one stored, so some byte was changed"
+    SUM "SUM" "the sum of the sheet's bytes is not the one stored, so the sheet was changed or cut short"
     TEXT "TEXT" "a text is not zero-ended and zero-filled, does not fit its field, or lacks its closing zero"
     RESERVED "RESERVED" "a flag, code or reserved field has a value that is not allowed"
     TOO_NEW "TOO NEW" "a feature here is later than the setting"
@@ -77,6 +77,17 @@ impl Refusal {
         }
     }
 
+    /// It as it prints, with another sentence in place of its [`meaning`](Refusal::meaning): for a caller who knows which of the two meanings of
+    /// [`ASK`](Refusal::ASK) it has.
+    ///
+    /// ```
+    /// let refusal = sxf::Setting::new(2005).unwrap_err();
+    /// assert_eq!(refusal.meaning_here("2005 is no setting"), "refusal 16 ASK at 0 (0x0): 2005 is no setting");
+    /// ```
+    pub fn meaning_here(&self, meaning: impl fmt::Display) -> String {
+        format!("refusal {} {} at {} ({:#x}): {meaning}", self.number, self.name(), self.place, self.place)
+    }
+
     /// There is no such record, or no such setting.
     pub(crate) const NO_SUCH: Refusal = Refusal { number: Refusal::ASK, place: 0, year: 0 };
 }
@@ -96,7 +107,7 @@ pub(crate) fn low8(number: u64) -> u8 {
 
 impl fmt::Display for Refusal {
     fn fmt(&self, f: &mut fmt::Formatter<'_>) -> fmt::Result {
-        write!(f, "refusal {} {} at {} ({:#x}): {}", self.number, self.name(), self.place, self.place, self.meaning())?;
+        f.write_str(&self.meaning_here(self.meaning()))?;
         if self.year != 0 {
             write!(f, "; it came in {}", self.year)?;
         }

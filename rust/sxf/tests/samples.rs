@@ -12,7 +12,7 @@ fn sample(name: &str) -> Vec<u8> {
     fs::read(&path).unwrap_or_else(|error| panic!("{}: {error}", path.display()))
 }
 
-const ACCEPTED: [&str; 9] = ["E", "P", "Q", "head", "labels", "heights", "items", "long", "dated"];
+const ACCEPTED: [&str; 10] = ["E", "P", "Q", "head", "labels", "heights", "floating", "items", "long", "dated"];
 
 /// With the number and place that samples/sheets.txt states.
 const REFUSED: [(&str, u32, usize); 8] = [

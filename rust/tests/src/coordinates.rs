@@ -14,7 +14,7 @@ const DIMENSIONS: [u32; 7] = [NORTH, EAST, HEIGHT, 3, 4, 256, u32::MAX];
 /// The ends of each kind of element and their neighbours, one past each width,
 /// and what floating numbers are likely to be taken wrongly for.
 #[rustfmt::skip]
-const BITS: [u64; 61] = [
+pub const EDGES: [u64; 61] = [
     // Integers of two bytes, and of four.
     0, 1, 0x7FFE, 0x7FFF, 0x8000, 0x8001, 0xFFFE, 0xFFFF, 0x1_0000, 0x1_0001,
     0x7FFF_FFFE, 0x7FFF_FFFF, 0x8000_0000, 0x8000_0001, 0xFFFF_FFFE, 0xFFFF_FFFF, 0x1_0000_0000, 0x1_0000_0001,
@@ -117,7 +117,7 @@ fn elements(judge: &mut Judge, value: u8, numbers: &mut Numbers) {
     let rest = any_rest(numbers);
     for shape in shapes() {
         for dimension in DIMENSIONS {
-            for bits in BITS {
+            for bits in EDGES {
                 judge.coordinate(&rest, shape, dimension, bits);
             }
             for width in [16, 32, 64] {
@@ -152,7 +152,7 @@ pub fn drawn(judge: &mut Judge, numbers: &mut Numbers) {
         let dimension = if numbers.chance(15, 16) { numbers.below(3) as u32 } else { numbers.of_bits(32) as u32 };
         let width = numbers.pick(&[16, 32, 32, 64]);
         let bits = match numbers.below(4) {
-            0 => numbers.pick(&BITS),
+            0 => numbers.pick(&EDGES),
             // Floating numbers whose exponents are all ones or nearly so.
             1 => numbers.any() >> (64 - width) | 0xFF << (width - 9),
             _ => numbers.of_bits(width),

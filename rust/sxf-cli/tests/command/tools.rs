@@ -1,0 +1,104 @@
+//! `sxf table F | TOOL | sxf write` gives F's bytes for every tool that keeps doubles. `jq` and `python3` are Debian's; .ci/packages installs them.
+use crate::drawn;
+use crate::run::{sample, Folder, ACCEPTED};
+use std::collections::BTreeSet;
+use std::fs;
+use std::num::FpCategory;
+use std::path::Path;
+use std::process::Command;
+use sxf::{ElementKind, Number, Setting, Sheet};
+
+/// Lines as they are, over several lines, with sorted keys, every integer as a double (`3.0`), and every number with 18 digits.
+const TOOLS: [&str; 7] = [
+    "jq -c .",
+    "jq .",
+    "jq -cS .",
+    "python3 -c 'import json, sys; [print(json.dumps(json.loads(line))) for line in sys.stdin]'",
+    "python3 -m json.tool --json-lines --sort-keys",
+    "python3 -c 'import json, sys; [print(json.dumps(json.loads(line, parse_int=float))) for line in sys.stdin]'",
+    r#"python3 -c 'import re, sys
+printed = lambda m: m[0] if m[0][0] == "\"" else "%.17e" % float(m[0])
+[print(re.sub(r"\"[^\"]*\"|[-+.0-9eE]+", printed, line), end="") for line in sys.stdin]'"#,
+];
+
+/// Sees that a sheet comes back through each tool.
+fn comes_back(folder: &Folder, sheet: &Path, tools: &[&str]) {
+    let bytes = fs::read(sheet).expect("a sheet");
+    for tool in tools {
+        let mut shell = Command::new("sh");
+        shell.args(["-c", &format!("\"$SXF\" table \"$SHEET\" | {tool} | \"$SXF\" write - -o again.sxf --force")]);
+        shell.env("SXF", env!("CARGO_BIN_EXE_sxf")).env("SHEET", sheet).current_dir(&folder.0);
+        let done = shell.output().expect("sh runs");
+        assert!(done.status.success(), "{} through {tool}: {}", sheet.display(), String::from_utf8_lossy(&done.stderr));
+        assert!(fs::read(folder.file("again.sxf")).expect("a sheet") == bytes, "{} through {tool}", sheet.display());
+    }
+}
+
+#[test]
+fn samples_come_back_through_tools() {
+    let folder = Folder::new("samples-through-tools");
+    for name in ACCEPTED {
+        comes_back(&folder, &sample(name), &TOOLS);
+    }
+}
+
+#[test]
+fn drawn_sheets_come_back_through_tools() {
+    let folder = Folder::new("drawn-through-tools");
+    let mut met = BTreeSet::new();
+    for number in 0..12 {
+        let bytes = drawn::sheet(number);
+        met.extend(classes(&bytes));
+        fs::write(folder.file("drawn.sxf"), &bytes).expect("a file");
+        comes_back(&folder, &folder.file("drawn.sxf"), &TOOLS);
+    }
+    assert_eq!(met, every_class(), "what was tried is every kind of element");
+}
+
+/// Of each element of a sheet its shape of points, its kind, and of a floating number what it is.
+fn classes(sheet: &[u8]) -> BTreeSet<String> {
+    let sheet = Sheet::read(sheet, Setting::Y2017).expect("a sheet");
+    let mut classes = BTreeSet::new();
+    for record in sheet.records() {
+        let reference = record.reference();
+        let kinds: Vec<ElementKind> = [reference.planar(); 2].into_iter().chain(reference.height()).collect();
+        for part in record.parts() {
+            let elements = part.elements().iter().zip(kinds.iter().cycle());
+            classes.extend(elements.map(|(&bits, &kind)| class(kinds.len(), kind, bits)));
+        }
+    }
+    classes
+}
+
+fn class(of_a_point: usize, kind: ElementKind, bits: u64) -> String {
+    let (sign, what) = match kind.number(bits).expect("a number") {
+        Number::Whole(whole) => (whole < 0, "whole"),
+        Number::Single(single) => (single.is_sign_negative(), name(single.classify())),
+        Number::Double(double) => (double.is_sign_negative(), name(double.classify())),
+        Number::NotNumber(bits) => (bits >> (8 * kind.width() - 1) == 1, "NaN"),
+    };
+    format!("{of_a_point} {kind} {}{what}", if sign { "-" } else { "" })
+}
+
+fn name(category: FpCategory) -> &'static str {
+    match category {
+        FpCategory::Nan => "NaN",
+        FpCategory::Infinite => "infinite",
+        FpCategory::Zero => "zero",
+        FpCategory::Subnormal => "subnormal",
+        FpCategory::Normal => "normal",
+    }
+}
+
+fn every_class() -> BTreeSet<String> {
+    let mut classes = BTreeSet::new();
+    for of_a_point in [2, 3] {
+        classes.extend(["2 bytes whole", "4 bytes whole", "4 bytes -whole"].map(|what| format!("{of_a_point} integers of {what}")));
+        for width in [4, 8] {
+            for what in ["NaN", "infinite", "zero", "subnormal", "normal"] {
+                classes.extend(["", "-"].map(|sign| format!("{of_a_point} floating numbers of {width} bytes {sign}{what}")));
+            }
+        }
+    }
+    classes
+}
