@@ -37,7 +37,7 @@ pub enum Command {
         /// The sheet
         file: PathBuf,
         /// Only this record, by its number from 0
-        #[arg(long, value_name = "N")]
+        #[arg(long, value_name = "N", value_parser = record_number)]
         record: Option<usize>,
         #[command(flatten)]
         at: AtYear,
@@ -45,8 +45,8 @@ pub enum Command {
     /// Print head and record table as JSON lines
     ///
     /// The first line is the head, then comes a line for each record. Texts, values and carried bytes are strings of hexadecimal digits;
-    /// elements are numbers, and those that decimals do not carry safely are strings with their bits; all other numbers are integers. No tool
-    /// spoils these lines that keeps doubles, and `sxf write` takes them.
+    /// elements are numbers, and those that decimals do not carry safely are strings with their bits; all other numbers are integers. A tool
+    /// that keeps doubles does not spoil these lines, and `sxf write` takes them.
     Table {
         /// The sheet
         file: PathBuf,
@@ -55,7 +55,7 @@ pub enum Command {
     },
     /// Write a sheet from JSON lines as `sxf table` prints them
     ///
-    /// The file is written whole or not at all. Where the head has `records`, so many lines must follow; without it any number may.
+    /// The file is written whole or not at all. Where the head has `records`, so many records must follow; without it any number may.
     Write {
         /// The JSON lines
         json: PathBuf,
@@ -90,6 +90,10 @@ fn setting(year: &str) -> Result<Setting, String> {
     let nine = format!("the settings are {}", nine_years());
     let year = year.parse().map_err(|_| format!("not a year; {nine}"))?;
     Setting::new(year).map_err(|refusal| refusal.meaning_here(format!("the year asked for is none of the nine; {nine}")))
+}
+
+fn record_number(number: &str) -> Result<usize, String> {
+    number.parse().map_err(|_| "not the number of a record; they are counted from 0".to_string())
 }
 
 /// What the command line asks for.

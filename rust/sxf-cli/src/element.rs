@@ -1,7 +1,7 @@
-//! Numbers of the JSON lines, such that every tool keeps them which keeps doubles.
+//! Numbers of the JSON lines. A tool that keeps doubles does not spoil them.
 //!
-//! A tool reads a number as a double, and prints some decimal that reads as the same double: `3` may come back as `3.0`, and `1e9` as
-//! `1000000000`. So a number is what it reads as, and not how it is written.
+//! Such a tool reads a number as a double, and prints some decimal that reads as the same double: `3` may come back as `3.0`, and `1e9` as
+//! `1000000000`. So a number is the double that it reads as, and not how it is written.
 use serde::de::{Deserializer, Error};
 use serde::{Deserialize, Serialize, Serializer};
 use serde_json::value::RawValue;
@@ -10,7 +10,7 @@ use std::fmt;
 use sxf::{ElementKind, Number};
 
 /// An element of a point as it stands in a line.
-#[derive(Clone, Copy, Debug, PartialEq)]
+#[derive(Clone, Copy)]
 pub enum Element {
     /// A number: the shortest decimal that reads as this double.
     Number(f64),
@@ -53,15 +53,11 @@ fn is_negative_zero(number: f64) -> bool {
     number == 0.0 && number.is_sign_negative()
 }
 
-/// The integer that a double is; none where it has a fraction, is out of reach, or is negative zero.
+/// The integer below 2^53 that a double is; none where it has a fraction or is negative zero. All integers of a sheet are below, and so far each
+/// is a double of its own.
 fn whole_of(number: f64) -> Option<i64> {
     let whole = number as i64;
-    (whole as f64 == number && !is_negative_zero(number)).then_some(whole)
-}
-
-/// The integer that a number prints as. Below 2^53 every integer is a double; beyond, its digits would not be the shortest decimal.
-fn plain(number: f64) -> Option<i64> {
-    whole_of(number).filter(|whole| whole.unsigned_abs() < 1 << 53)
+    (whole as f64 == number && whole.unsigned_abs() < 1 << 53 && !is_negative_zero(number)).then_some(whole)
 }
 
 /// The double of the shortest decimal that gives this single again, also where it is read as a double first and only then rounded to a single,
@@ -82,7 +78,7 @@ fn single_of(double: f64) -> Option<f32> {
 impl fmt::Display for Element {
     fn fmt(&self, f: &mut fmt::Formatter<'_>) -> fmt::Result {
         match *self {
-            Element::Number(number) => match plain(number) {
+            Element::Number(number) => match whole_of(number) {
                 Some(whole) => whole.fmt(f),
                 None => write!(f, "{number:?}"),
             },
@@ -94,7 +90,7 @@ impl fmt::Display for Element {
 impl Serialize for Element {
     fn serialize<S: Serializer>(&self, serializer: S) -> Result<S::Ok, S::Error> {
         match *self {
-            Element::Number(number) => match plain(number) {
+            Element::Number(number) => match whole_of(number) {
                 Some(whole) => serializer.serialize_i64(whole),
                 None => serializer.serialize_f64(number),
             },
@@ -106,7 +102,8 @@ impl Serialize for Element {
 impl<'de> Deserialize<'de> for Element {
     fn deserialize<D: Deserializer<'de>>(deserializer: D) -> Result<Self, D::Error> {
         let text = text_of(deserializer)?;
-        let wanted = "where a number should be, or a string of 0x and the 8 or 16 hexadecimal digits of a floating number's bits";
+        let wanted =
+            "where a number that a double holds should be, or a string of 0x and the 8 or 16 hexadecimal digits of one's bits";
         number_in(text)
             .map(Element::Number)
             .or_else(|| bits_in(text))
@@ -119,8 +116,8 @@ pub fn whole<'de, D: Deserializer<'de>, N: TryFrom<u64>>(deserializer: D) -> Res
     let text = text_of(deserializer)?;
     let whole = text.parse().ok().or_else(|| u64::try_from(whole_of(number_in(text)?)?).ok());
     let fits = whole.and_then(|whole| N::try_from(whole).ok());
-    let last = u64::MAX >> (64 - 8 * size_of::<N>());
-    fits.ok_or_else(|| D::Error::custom(format!("{}, where an integer from 0 to {last} should be", told(text))))
+    let most = 8 * size_of::<N>();
+    fits.ok_or_else(|| D::Error::custom(format!("{}, where an integer of at most {most} bits, from 0 on, should be", told(text))))
 }
 
 /// A value that is not taken, or what it is where it may be long.
@@ -208,7 +205,7 @@ mod tests {
 
     /// All singles that are not negative; the others differ in their sign alone.
     #[test]
-    #[ignore = "it takes a quarter of an hour"]
+    #[ignore = "it takes half an hour"]
     fn every_single_comes_back_from_a_line() {
         for bits in 0..=0x7FFF_FFFF {
             assert_eq!(printed(ElementKind::Single, bits).1, Some(bits));

@@ -41,9 +41,12 @@ impl Failure {
     }
 }
 
+/// The longest line that is told: longer ones have a long string of the input in them.
+const LONGEST: usize = 2000;
+
 /// Prints one line on standard error. Where even that fails, the exit status alone says what happened.
 fn told(line: &str, status: u8) -> ExitCode {
-    let _ = writeln!(io::stderr(), "sxf: {}", line.chars().map(visible).collect::<String>());
+    let _ = writeln!(io::stderr(), "sxf: {}", line.chars().take(LONGEST).map(visible).collect::<String>());
     ExitCode::from(status)
 }
 

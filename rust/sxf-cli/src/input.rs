@@ -1,14 +1,16 @@
 //! Files that are read.
 use crate::failure::Failure;
+use crate::standard;
 use std::fs::File;
-use std::io::{self, Read};
+use std::io::Read;
 use std::path::Path;
 use sxf::{Setting, Sheet, LIMIT};
 
 /// A file, or standard input for `-`.
 pub fn open(file: &Path) -> Result<Box<dyn Read>, Failure> {
     if file == Path::new("-") {
-        return Ok(Box::new(io::stdin()));
+        let input = standard::input().map_err(|error| Failure::Trouble(format!("standard input: {error}")))?;
+        return Ok(Box::new(input));
     }
     let opened = File::open(file).map_err(|error| Failure::trouble(file, error))?;
     Ok(Box::new(opened))

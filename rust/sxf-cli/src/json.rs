@@ -3,6 +3,7 @@
 //! Bytes are strings of hexadecimal digits. Elements are numbers (element.rs), and the other numbers are those of the record table, all of them
 //! integers below 2^53. Points, parts, items, text lengths and value lengths are counted from what is there.
 use crate::element::whole;
+use crate::object::objects;
 use crate::points::Points;
 use serde::de::{self, Deserializer, Visitor};
 use serde::{Deserialize, Serialize, Serializer};
@@ -16,7 +17,7 @@ pub const EDITION: &str = "4.0";
 pub const FORMAT: u64 = 2;
 
 #[derive(Serialize, Deserialize)]
-#[serde(deny_unknown_fields)]
+#[serde(deny_unknown_fields, expecting = "the head, an object")]
 pub struct HeadLine<'a> {
     pub sxf: Cow<'a, str>,
     #[serde(deserialize_with = "whole")]
@@ -33,7 +34,7 @@ pub struct HeadLine<'a> {
     /// The four bytes at 444.
     #[serde(rename = "flags")]
     pub carried: Hex<'a>,
-    /// How many lines follow, so that a table that was cut is not written. It may be left out.
+    /// How many records follow, so that a table that was cut is not written. It may be left out.
     #[serde(default, deserialize_with = "some_whole", skip_serializing_if = "Option::is_none")]
     pub records: Option<u64>,
 }
@@ -43,7 +44,7 @@ fn some_whole<'de, D: Deserializer<'de>>(deserializer: D) -> Result<Option<u64>,
 }
 
 #[derive(Serialize, Deserialize)]
-#[serde(deny_unknown_fields)]
+#[serde(deny_unknown_fields, expecting = "a record, an object")]
 pub struct RecordLine<'a> {
     #[serde(deserialize_with = "whole")]
     pub code: u64,
@@ -58,12 +59,14 @@ pub struct RecordLine<'a> {
     pub generalisation: u64,
     #[serde(deserialize_with = "whole")]
     pub word: u64,
+    #[serde(deserialize_with = "objects")]
     pub parts: Vec<PartLine<'a>>,
+    #[serde(deserialize_with = "objects")]
     pub items: Vec<ItemLine<'a>>,
 }
 
 #[derive(Serialize, Deserialize)]
-#[serde(deny_unknown_fields)]
+#[serde(deny_unknown_fields, expecting = "a part, an object")]
 pub struct PartLine<'a> {
     pub points: Points,
     /// Without its closing zero; empty, or left out, without the text bit.
@@ -72,7 +75,7 @@ pub struct PartLine<'a> {
 }
 
 #[derive(Serialize, Deserialize)]
-#[serde(deny_unknown_fields)]
+#[serde(deny_unknown_fields, expecting = "an item, an object")]
 pub struct ItemLine<'a> {
     #[serde(deserialize_with = "whole")]
     pub code: u64,

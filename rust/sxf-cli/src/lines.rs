@@ -6,8 +6,13 @@ use sxf::LIMIT;
 /// More than the lines of any sheet take: an integer of 2 bytes takes 27 in a line of its own, with four spaces for each bracket around it.
 const LONGEST: u64 = 64 * LIMIT as u64;
 
-/// Byte-order marks, with the coding that each says.
-const MARKS: [(&[u8], &str); 3] = [(&[0xEF, 0xBB, 0xBF], "UTF-8"), (&[0xFF, 0xFE], "UTF-16"), (&[0xFE, 0xFF], "UTF-16")];
+/// What a value may begin with that is none of it, and what is told then.
+const NOT_LINES: [(&[u8], &str); 4] = [
+    (&[0xEF, 0xBB, 0xBF], "begins with a byte-order mark of UTF-8; save the lines as UTF-8 without one"),
+    (&[0xFF, 0xFE], "begins with a byte-order mark of UTF-16; save the lines as UTF-8 without one"),
+    (&[0xFE, 0xFF], "begins with a byte-order mark of UTF-16; save the lines as UTF-8 without one"),
+    (b"SXF\0", "is a sheet's, and not its lines; `sxf table` prints them"),
+];
 
 pub struct Lines<R> {
     input: BufReader<Take<R>>,
@@ -50,23 +55,23 @@ impl<R: Read> Lines<R> {
 
     /// Adds a line to the value: how many bytes it has.
     fn line(&mut self) -> Result<usize, String> {
-        let start = self.value.len();
+        let begun = !self.value.is_empty();
         let length = self.input.read_until(b'\n', &mut self.value).map_err(|error: io::Error| error.to_string())?;
         if self.input.get_ref().limit() == 0 {
             return Err(format!("{LONGEST} bytes or more, which is longer than the lines of any sheet"));
         }
-        if let Some((_, coding)) = MARKS.iter().find(|(mark, _)| self.read == 0 && self.value[start..].starts_with(mark)) {
-            return Err(format!("line 1 begins with a byte-order mark of {coding}; save the lines as UTF-8 without one"));
-        }
         self.read += usize::from(length != 0);
-        Ok(length)
+        match NOT_LINES.iter().find(|(bytes, _)| !begun && self.value.starts_with(bytes)) {
+            Some((_, what)) => Err(format!("line {} {what}", self.read)),
+            None => Ok(length),
+        }
     }
 
     /// Parses the value that was read last. A line number that the parser gives counts from the value's first line.
     pub fn parsed<'a, T: Deserialize<'a>>(&'a self) -> Result<T, String> {
         serde_json::from_slice(&self.value).map_err(|error| {
             let told = error.to_string();
-            let what = told.split(" at line ").next().unwrap_or(&told);
+            let what = told.rsplit_once(" at line ").map_or(told.as_str(), |(what, _)| what);
             format!("line {}: column {}: {what}", self.first + error.line().saturating_sub(1), error.column())
         })
     }

@@ -12,6 +12,7 @@ mod input;
 mod json;
 mod lines;
 mod list;
+mod object;
 mod output;
 mod points;
 mod show;

@@ -1,9 +1,8 @@
 //! A sheet is written to a file, whole or not at all, or to standard output.
 use crate::failure::Failure;
-use std::ffi::OsString;
 use std::fs::{self, File, FileType, Metadata, OpenOptions, Permissions};
 use std::io::{self, Write};
-use std::os::unix::fs::FileTypeExt;
+use std::os::unix::fs::{fchown, FileTypeExt, MetadataExt, PermissionsExt};
 use std::path::{Path, PathBuf};
 use std::process;
 
@@ -13,7 +12,7 @@ pub struct Target<'a> {
     pub force: bool,
 }
 
-pub fn whole(target: &Target<'_>, bytes: &[u8], out: &mut dyn Write) -> Result<(), Failure> {
+pub fn sheet(target: &Target<'_>, bytes: &[u8], out: &mut dyn Write) -> Result<(), Failure> {
     let file = target.file;
     if file == Path::new("-") {
         // Also a reader that goes is a failure here: the sheet is not whole.
@@ -24,13 +23,13 @@ pub fn whole(target: &Target<'_>, bytes: &[u8], out: &mut dyn Write) -> Result<(
 
 /// Writes a file beside the one wanted, and gives it that name when it is safe on the disk. On a failure nothing is left behind.
 fn written(target: &Target<'_>, bytes: &[u8]) -> io::Result<()> {
-    let (file, permissions) = place(target)?;
+    let (file, found) = behind_links(target.file)?;
     let folder = match file.parent() {
         Some(parent) if parent != Path::new("") => parent,
         _ => Path::new("."),
     };
-    let (temporary, beside) = create(folder, &file)?;
-    let named = fill(beside, bytes, permissions).and_then(|()| name(&temporary, &file, target.force));
+    let (temporary, beside) = create(folder)?;
+    let named = fill(beside, bytes, found).and_then(|()| name(&temporary, &file, target.force));
     if named.is_err() {
         // An error here would hide the one that is told.
         let _ = fs::remove_file(&temporary);
@@ -40,11 +39,10 @@ fn written(target: &Target<'_>, bytes: &[u8]) -> io::Result<()> {
     Ok(())
 }
 
-/// The file to put in place, behind links, and the permissions it has if it is there. What is there and is no file is not put away for a sheet.
-fn place(target: &Target<'_>) -> io::Result<(PathBuf, Option<Permissions>)> {
-    let file = target.file;
+/// The file to put in place, behind links, and what is known of it if it is there. What is there and is no file is not put away for a sheet.
+fn behind_links(file: &Path) -> io::Result<(PathBuf, Option<Metadata>)> {
     match fs::metadata(file) {
-        Ok(found) if found.is_file() => replaced(target, &found),
+        Ok(found) if found.is_file() => Ok((writable(file, &found)?, Some(found))),
         Ok(found) => Err(refused(format!("it is {}", kind(found.file_type())))),
         Err(error) if error.kind() == io::ErrorKind::NotFound => match fs::read_link(file) {
             Ok(named) => Err(refused(format!("it is a dangling link, to {}", named.display()))),
@@ -55,17 +53,13 @@ fn place(target: &Target<'_>) -> io::Result<(PathBuf, Option<Permissions>)> {
 }
 
 /// A file that is there. Whoever may not write into it may not put another in its place, though the folder would let him.
-fn replaced(target: &Target<'_>, found: &Metadata) -> io::Result<(PathBuf, Option<Permissions>)> {
-    let file = fs::canonicalize(target.file)?;
+fn writable(file: &Path, found: &Metadata) -> io::Result<PathBuf> {
     // To some users every file opens, so its permissions are looked at too.
     if found.permissions().readonly() {
         return Err(refused("it is there and has no write permission, so it is not replaced"));
     }
-    OpenOptions::new().write(true).open(&file)?;
-    if !target.force {
-        return Err(there());
-    }
-    Ok((file, Some(found.permissions())))
+    OpenOptions::new().write(true).open(file)?;
+    fs::canonicalize(file)
 }
 
 fn kind(found: FileType) -> &'static str {
@@ -84,25 +78,24 @@ fn refused(what: impl Into<String>) -> io::Error {
     io::Error::new(io::ErrorKind::InvalidInput, what.into())
 }
 
-fn there() -> io::Error {
-    refused("it is there already; --force replaces it")
-}
-
-/// Gives the file its name. A rename would put away a file that has come meanwhile; a link does not. Some file systems have no links.
+/// Gives the file its name. Without `force` it must be free: a rename would put away what has it, a link does not. Some file systems have no links.
 fn name(temporary: &Path, file: &Path, force: bool) -> io::Result<()> {
     if force {
         return fs::rename(temporary, file);
     }
     match fs::hard_link(temporary, file) {
         Ok(()) => fs::remove_file(temporary),
-        Err(_) if fs::symlink_metadata(file).is_ok() => Err(there()),
+        Err(_) if fs::symlink_metadata(file).is_ok() => Err(refused("it is there already; --force replaces it")),
         Err(_) => fs::rename(temporary, file),
     }
 }
 
-fn fill(mut file: File, bytes: &[u8], permissions: Option<Permissions>) -> io::Result<()> {
-    if let Some(permissions) = permissions {
-        file.set_permissions(permissions)?;
+/// Fills the file, and gives it the permissions of the one that it replaces, and the owner where that is allowed.
+fn fill(mut file: File, bytes: &[u8], replaced: Option<Metadata>) -> io::Result<()> {
+    if let Some(found) = replaced {
+        let _ = fchown(&file, Some(found.uid()), Some(found.gid()));
+        // A sheet is no program, so no bit stays that a program has beside its permissions.
+        file.set_permissions(Permissions::from_mode(found.mode() & 0o777))?;
     }
     file.write_all(bytes)?;
     file.sync_all()
@@ -113,24 +106,17 @@ fn keep_name(folder: &Path) {
     let _ = File::open(folder).and_then(|folder| folder.sync_all());
 }
 
-/// Creates a file beside the one wanted, under a name that is not taken.
-fn create(folder: &Path, file: &Path) -> io::Result<(PathBuf, File)> {
-    let name = file.file_name().ok_or_else(|| refused("not the name of a file"))?;
+/// Creates a file in the folder, under a name that is not taken.
+fn create(folder: &Path) -> io::Result<(PathBuf, File)> {
     for attempt in 0..100 {
-        let path = folder.join(temporary_name(name.to_os_string(), attempt));
+        let path = folder.join(format!(".sxf.{}.{attempt}.tmp", process::id()));
         match OpenOptions::new().write(true).create_new(true).open(&path) {
+            Ok(opened) => return Ok((path, opened)),
             Err(error) if error.kind() == io::ErrorKind::AlreadyExists => continue,
-            opened => return opened.map(|opened| (path, opened)),
+            Err(error) => return Err(refused(format!("no file can be made in its folder: {error}"))),
         }
     }
-    Err(io::Error::new(io::ErrorKind::AlreadyExists, "its folder is full of temporary files"))
-}
-
-fn temporary_name(name: OsString, attempt: u32) -> OsString {
-    let mut temporary = OsString::from(".");
-    temporary.push(name);
-    temporary.push(format!(".{}.{attempt}.tmp", process::id()));
-    temporary
+    Err(refused("its folder is full of temporary files"))
 }
 
 #[cfg(test)]

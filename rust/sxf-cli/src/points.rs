@@ -6,10 +6,10 @@ use std::fmt;
 use sxf::{ElementKind, Reference};
 
 /// The elements of all points, one after another.
-#[derive(Debug, Default, PartialEq)]
+#[derive(Default)]
 pub struct Points {
     elements: Vec<Element>,
-    /// How many elements a point has; 0 where there is no point.
+    /// How many elements a point has; where a line has no point it is 0.
     of_a_point: usize,
 }
 

@@ -1,16 +1,16 @@
-//! Standard output, and whether there is one.
+//! Standard input and output, and whether they are there.
 #![allow(unsafe_code)]
 use std::ffi::c_int;
 use std::fs::File;
-use std::io::{self, Write};
+use std::io::{self, Read, Write};
 use std::os::fd::AsFd;
 use std::sync::atomic::{AtomicBool, Ordering};
 
-/// Whether standard output was closed when the program began.
-static CLOSED: AtomicBool = AtomicBool::new(false);
+/// Whether standard input and standard output, descriptors 0 and 1, were closed when the program began.
+static CLOSED: [AtomicBool; 2] = [AtomicBool::new(false), AtomicBool::new(false)];
 
-/// Rust's runtime opens /dev/null in the place of a standard output that is closed, before `main` is called: all that is printed would be
-/// lost, and nobody told. So this is asked earlier, as what the linker has called before the runtime.
+/// Rust's runtime opens /dev/null in the place of one that is closed, before `main` is called: all that is printed would be lost, and nobody
+/// told. So this is asked earlier: what stands in this section is called before Rust's runtime begins.
 #[used]
 #[link_section = ".init_array"]
 static BEFORE_MAIN: extern "C" fn() = ask;
@@ -19,24 +19,34 @@ extern "C" fn ask() {
     extern "C" {
         fn fcntl(descriptor: c_int, command: c_int, ...) -> c_int;
     }
-    const STANDARD_OUTPUT: c_int = 1;
     const F_GETFD: c_int = 1;
-    // SAFETY: this is libc's function as it is declared; the command takes no third argument and changes nothing, and a descriptor that
-    // is closed is answered with -1.
-    let flags = unsafe { fcntl(STANDARD_OUTPUT, F_GETFD) };
-    CLOSED.store(flags == -1, Ordering::Relaxed);
+    for (descriptor, closed) in (0..).zip(&CLOSED) {
+        // SAFETY: this is libc's function as it is declared; the command takes no third argument and changes nothing, and a descriptor
+        // that is closed is answered with -1.
+        let flags = unsafe { fcntl(descriptor, F_GETFD) };
+        closed.store(flags == -1, Ordering::Relaxed);
+    }
 }
 
-/// Standard output, unless there is none: then the first write fails. It is written as a file is, since `io::Stdout` takes an output that is
-/// not open for writing for one that nobody wants.
+fn open(descriptor: usize) -> io::Result<()> {
+    match CLOSED[descriptor].load(Ordering::Relaxed) {
+        true => Err(io::Error::other("it is closed")),
+        false => Ok(()),
+    }
+}
+
+/// Standard input, if it is there.
+pub fn input() -> io::Result<impl Read> {
+    open(0).map(|()| io::stdin())
+}
+
+/// Standard output. Where it is not there, the first write fails. It is written as a file is, since `io::Stdout` takes an output that is not
+/// open for writing for one that nobody wants.
 pub struct StandardOutput(io::Result<File>);
 
 impl StandardOutput {
     pub fn new() -> StandardOutput {
-        StandardOutput(match CLOSED.load(Ordering::Relaxed) {
-            true => Err(io::Error::other("it is closed")),
-            false => io::stdout().as_fd().try_clone_to_owned().map(File::from),
-        })
+        StandardOutput(open(1).and_then(|()| io::stdout().as_fd().try_clone_to_owned()).map(File::from))
     }
 }
 

@@ -3,6 +3,7 @@ use crate::failure::Failure;
 use crate::input;
 use crate::json::{HeadLine, ItemLine, PartLine, RecordLine, EDITION, FORMAT};
 use crate::lines::Lines;
+use crate::object::Object;
 use crate::output::{self, Target};
 use serde_json::Value;
 use std::io::{Read, Write};
@@ -17,7 +18,7 @@ pub fn run(json: &Path, target: &Target<'_>, setting: Setting, out: &mut dyn Wri
     let head = head_of(&head).map_err(|what| Failure::trouble(json, format!("the head: {what}")))?;
     let sheet =
         sxf::write(&head, records.table.lend(), setting).map_err(|refusal| told(json, &head, &records, setting, refusal))?;
-    output::whole(target, &sheet, out)
+    output::sheet(target, &sheet, out)
 }
 
 /// The refusal with the line of the JSON that it is about.
@@ -72,7 +73,7 @@ impl Records {
         self.table.numbers.extend(row::Part { points: part.points.len() as u64, text_length: text.len() as u64 }.numbers());
         self.table.bytes.extend_from_slice(text);
         // A number too large for the reference bytes is refused by the library before it looks at any point.
-        if let Ok(reference) = u32::try_from(reference) {
+        if let Some(reference) = u32::try_from(reference).ok().filter(|reference| reference >> 24 == 0) {
             self.table.elements.extend(part.points.bits(Reference(reference))?);
         }
         Ok(())
@@ -132,7 +133,7 @@ fn head_line<R: Read>(lines: &Lines<R>) -> Result<HeadLine<'static>, String> {
         Some(format) if format.as_f64() != Some(FORMAT as f64) => {
             Err(lines.told(&format!("format is {format}, where this reads {FORMAT}; write the sheet by the sxf that printed it")))
         }
-        _ => lines.parsed(),
+        _ => lines.parsed().map(|Object(head)| head),
     }
 }
 
@@ -140,5 +141,6 @@ fn head_line<R: Read>(lines: &Lines<R>) -> Result<HeadLine<'static>, String> {
 fn record_line<R: Read>(lines: &Lines<R>) -> Result<RecordLine<'static>, String> {
     let is_old =
         |record: Value| record["parts"].as_array().is_some_and(|parts| parts.iter().any(|part| part.get("elements").is_some()));
-    lines.parsed().map_err(|what| if lines.parsed().is_ok_and(is_old) { lines.told(OLD_KIND) } else { what })
+    let told = |what| if lines.parsed().is_ok_and(is_old) { lines.told(OLD_KIND) } else { what };
+    lines.parsed().map(|Object(record)| record).map_err(told)
 }

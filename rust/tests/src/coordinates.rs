@@ -32,7 +32,7 @@ pub const EDGES: [u64; 61] = [
 const RESOLUTIONS: [u32; 8] = [0, 1, 0x7FFF_FFFE, 0x7FFF_FFFF, 0x8000_0000, 0x8000_0001, 0xFFFF_FFFE, 0xFFFF_FFFF];
 
 /// The eight shapes of points, by the bits that say them.
-fn shapes() -> impl Iterator<Item = u32> {
+pub fn shapes() -> impl Iterator<Item = u32> {
     let bit = |shape: u32, number: u32, bit: u64| if shape >> number & 1 == 1 { bit as u32 } else { 0 };
     (0..8).map(move |shape| bit(shape, 0, ELEMENT_SIZE) | bit(shape, 1, FLOATING) | bit(shape, 2, THREE_DIMENSIONS))
 }

@@ -1,11 +1,21 @@
 //! What the command prints of sheets, and its exit statuses.
-use crate::run::{on, out, sample, status, sxf, told, Folder, ACCEPTED, REFUSED};
+use crate::run::{on, out, sample, status, sxf, told, top, Folder, ACCEPTED, REFUSED};
 use std::fs;
 
 #[test]
 fn q_is_listed_as_document_01_says() {
     let listed = on("list", &sample("Q"), &[]);
     assert_eq!((status(&listed), out(&listed)), (0, "SXF 494 2384 1\n0 452 42 0 0 0 2 1 1\n".to_string()));
+}
+
+#[test]
+fn every_sample_is_tried() {
+    let names = fs::read_dir(top().join("samples")).expect("the samples").map(|entry| entry.expect("an entry").path());
+    let mut there: Vec<_> = names.filter(|path| path.extension().is_some_and(|extension| extension == "sxf")).collect();
+    let mut tried: Vec<_> = ACCEPTED.iter().chain(&REFUSED).map(|name| sample(name)).collect();
+    there.sort();
+    tried.sort();
+    assert_eq!(tried, there);
 }
 
 #[test]
@@ -43,6 +53,8 @@ fn usage_and_unreadable_files_are_status_2() {
         assert_eq!(status(&output), 2, "{words:?}");
         told(&output);
     }
+    let line = told(&on("show", &sample("Q"), &["--record", "x"]));
+    assert!(line.contains("not the number of a record; they are counted from 0"), "{line}");
     let folder = Folder::new("unreadable");
     for file in [folder.file("none.sxf"), folder.0.clone()] {
         let output = on("check", &file, &[]);

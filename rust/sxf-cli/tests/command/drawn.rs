@@ -1,5 +1,5 @@
 //! Drawn sheets with every kind of element: of each shape of points one record that has all edges, and as many elements of any bits.
-use held_against_second::coordinates::EDGES;
+use held_against_second::coordinates::{shapes, EDGES};
 use held_against_second::heads::head;
 use held_against_second::numbers::Numbers;
 use held_against_second::sheets::written;
@@ -10,11 +10,6 @@ use sxf::Reference;
 const YEAR: u32 = 2017;
 
 const SHAPE: u32 = Reference::ELEMENT_SIZE | Reference::FLOATING | Reference::THREE_DIMENSIONS;
-
-/// The eight shapes of points, by the bits that say them.
-pub fn shapes() -> impl Iterator<Item = u32> {
-    (0..1 << 24).step_by(Reference::ELEMENT_SIZE as usize).filter(|bits| bits & !SHAPE == 0)
-}
 
 /// The sheet of a number.
 pub fn sheet(number: u64) -> Vec<u8> {
@@ -34,7 +29,7 @@ pub fn sheet(number: u64) -> Vec<u8> {
     written(YEAR, head, table).sheet
 }
 
-/// Puts each edge once in each dimension; the other elements of the plane get any bits.
+/// Puts each edge once in the plane, beside any bits, and once in the heights.
 fn put_edges(elements: &mut [u64], reference: u64, numbers: &mut Numbers) {
     let widths = widths(reference);
     let of_a_point = widths.elements() as usize;

@@ -1,9 +1,12 @@
 //! What is written where, and what is left where it is.
 use crate::run::{fed, on, out, sample, status, sxf, told, write, Folder};
-use std::fs::{self, Permissions};
-use std::os::unix::fs::{symlink, PermissionsExt};
+use std::env;
+use std::fs::{self, Metadata, Permissions};
+use std::io;
+use std::os::unix::fs::{chown, symlink, MetadataExt, PermissionsExt};
+use std::os::unix::process::CommandExt;
 use std::path::PathBuf;
-use std::process::{Command, Stdio};
+use std::process::{self, Command};
 
 #[test]
 fn a_file_that_cannot_be_written_leaves_nothing_behind() {
@@ -11,12 +14,15 @@ fn a_file_that_cannot_be_written_leaves_nothing_behind() {
     let table = on("table", &sample("Q"), &[]).stdout;
     fs::create_dir(folder.file("taken")).expect("a folder");
     symlink("nowhere.sxf", folder.file("link.sxf")).expect("a link");
+    assert!(Command::new("mkfifo").arg(folder.file("pipe")).status().expect("mkfifo runs").success());
     for (target, why) in [
-        (folder.file("none").join("q.sxf"), "No such file or directory"),
+        (folder.file("pipe"), "it is a pipe"),
+        (folder.file("none").join("q.sxf"), "no file can be made in its folder: No such file or directory"),
         (folder.file("taken"), "it is a folder"),
         (folder.file(".."), "it is a folder"),
         (PathBuf::from("/dev/null"), "it is a device"),
         (folder.file("link.sxf"), "it is a dangling link, to nowhere.sxf"),
+        (PathBuf::from("/proc/q.sxf"), "no file can be made in its folder: "),
     ] {
         for more in [&[][..], &["--force"]] {
             let output = write(&table, &target, more);
@@ -24,7 +30,7 @@ fn a_file_that_cannot_be_written_leaves_nothing_behind() {
             assert!(told(&output).contains(&format!("cannot be written: {why}")), "{}", told(&output));
         }
     }
-    assert_eq!(folder.names(), ["link.sxf", "taken"]);
+    assert_eq!(folder.names(), ["link.sxf", "pipe", "taken"]);
     assert_eq!(fs::read_dir(folder.file("taken")).expect("the folder").count(), 0);
     assert_eq!(fs::read_link(folder.file("link.sxf")).expect("the link"), PathBuf::from("nowhere.sxf"));
 }
@@ -79,8 +85,10 @@ fn a_file_that_is_there_is_replaced_only_by_force() {
     }
     assert_eq!(status(&write(&good, &file, &["--force"])), 0);
     assert_eq!(fs::read(&file).expect("the file").len(), 494);
-    assert_eq!(status(&write(&good, &folder.file("new.sxf"), &["--force"])), 0);
-    assert_eq!(folder.names(), ["link.sxf", "new.sxf", "q.sxf"]);
+    // A name may be as long as the file system has them.
+    let long = format!("{}.sxf", "n".repeat(251));
+    assert_eq!(status(&write(&good, &folder.file(&long), &["--force"])), 0);
+    assert_eq!(folder.names(), ["link.sxf", &long, "q.sxf"]);
 }
 
 /// Its permissions say so, whoever asks: root could write into every file.
@@ -103,6 +111,29 @@ fn a_file_without_write_permission_is_never_replaced() {
     assert_eq!(folder.names(), ["link.sxf", "q.sxf"]);
 }
 
+/// One that this user may not write, in a folder where he may rename. Only root can be another user, as the gate is.
+#[test]
+fn a_file_of_another_user_is_never_replaced() {
+    const NOBODY: u32 = 65534;
+    // The folders above the tests' own may be closed to others.
+    let folder = Folder(env::temp_dir().join(format!("sxf-nobody-{}", process::id())));
+    fs::create_dir(&folder.0).expect("a folder");
+    if fs::metadata(&folder.0).expect("the folder").uid() != 0 {
+        return;
+    }
+    fs::set_permissions(&folder.0, Permissions::from_mode(0o777)).expect("permissions");
+    fs::copy(env!("CARGO_BIN_EXE_sxf"), folder.file("sxf")).expect("the command");
+    fs::write(folder.file("q.json"), good_and_refused().0).expect("a file");
+    fs::write(folder.file("q.sxf"), b"what was there").expect("a file");
+    let mut command = Command::new(folder.file("sxf"));
+    command.args(["write", "q.json", "--force", "-o", "q.sxf"]).current_dir(&folder.0).uid(NOBODY).gid(NOBODY);
+    let output = command.output().expect("sxf runs");
+    assert_eq!(status(&output), 2);
+    assert!(told(&output).contains("q.sxf: cannot be written: Permission denied"), "{}", told(&output));
+    assert_eq!(fs::read(folder.file("q.sxf")).expect("the file"), b"what was there");
+    assert_eq!(folder.names(), ["q.json", "q.sxf", "sxf"]);
+}
+
 #[test]
 fn a_sheet_is_written_to_standard_output() {
     let folder = Folder::new("dash");
@@ -117,39 +148,45 @@ fn a_sheet_is_written_to_standard_output() {
     assert_eq!(folder.names(), [""; 0]);
 }
 
-/// Of a sheet, a reader that goes has a part: that is a failure.
+/// A sheet that nobody takes is not written.
 #[test]
 fn a_reader_that_goes_is_a_failure_of_a_sheet() {
     let folder = Folder::new("gone");
     for name in ["Q", "long"] {
         fs::write(folder.file("lines.json"), on("table", &sample(name), &[]).stdout).expect("a file");
+        let (reader, writer) = io::pipe().expect("a pipe");
+        drop(reader);
         let mut command = sxf(&["write", "lines.json", "-o", "-"]);
-        let command = command.current_dir(&folder.0).stdout(Stdio::piped()).stderr(Stdio::piped());
-        let mut child = command.spawn().expect("sxf runs");
-        drop(child.stdout.take());
-        let output = child.wait_with_output().expect("sxf ends");
+        let output = command.current_dir(&folder.0).stdout(writer).output().expect("sxf runs");
         assert_eq!(status(&output), 2, "{name}");
         assert!(told(&output).contains("standard output: "), "{name}");
     }
 }
 
+/// Permissions are kept and owners too; a bit that would have it run as its owner is not.
 #[test]
 fn a_file_behind_a_link_is_replaced_with_its_permissions() {
     let folder = Folder::new("link");
     let (file, link) = (folder.file("q.sxf"), folder.file("link.sxf"));
     fs::write(&file, b"old").expect("a file");
-    fs::set_permissions(&file, Permissions::from_mode(0o600)).expect("permissions");
+    // Only root may give a file away.
+    let given = chown(&file, Some(12), Some(34)).is_ok();
+    fs::set_permissions(&file, Permissions::from_mode(0o4600)).expect("permissions");
+    let owner = |found: &Metadata| (found.uid(), found.gid());
+    let before = fs::metadata(&file).expect("the file");
     symlink("q.sxf", &link).expect("a link");
     assert_eq!(status(&write(&on("table", &sample("Q"), &[]).stdout, &link, &["--force"])), 0);
-    assert_eq!(fs::metadata(&file).map(|found| (found.len(), found.permissions().mode() & 0o777)).expect("the file"), (494, 0o600));
+    let after = fs::metadata(&file).expect("the file");
+    assert_eq!((after.len(), after.mode() & 0o7777), (494, 0o600));
+    assert_eq!(owner(&after), if given { (12, 34) } else { owner(&before) });
     assert!(fs::symlink_metadata(&link).expect("the link").is_symlink());
 }
 
 #[test]
 fn a_reader_that_goes_is_no_failure() {
-    let mut child = sxf(&["table"]).arg(sample("long")).stdout(Stdio::piped()).stderr(Stdio::piped()).spawn().expect("sxf runs");
-    drop(child.stdout.take());
-    let output = child.wait_with_output().expect("sxf ends");
+    let (reader, writer) = io::pipe().expect("a pipe");
+    drop(reader);
+    let output = sxf(&["table"]).arg(sample("long")).stdout(writer).output().expect("sxf runs");
     assert_eq!((status(&output), output.stderr.len()), (0, 0));
 }
 
@@ -190,6 +227,8 @@ fn a_closed_standard_output_is_a_failure() {
         assert_eq!(status(&run(">/dev/null", words)), 0, "{words:?}");
         assert_eq!(status(&run("1<>/dev/null", words)), 0, "{words:?}");
     }
-    assert_eq!(status(&run(">&-", &["write", "q.json", "-o", "q.sxf"])), 0);
+    let input = run("<&-", &["check", "-"]);
+    assert_eq!((status(&input), told(&input).as_str()), (2, "sxf: standard input: it is closed\n"));
+    assert_eq!(status(&run(">&- <&-", &["write", "q.json", "-o", "q.sxf"])), 0);
     assert!(fs::read(folder.file("q.sxf")).expect("a sheet") == fs::read(sample("Q")).expect("a sample"));
 }

@@ -124,12 +124,16 @@ fn elements_are_taken_by_what_they_are() {
             "0x7ff8000000000000 is none of the floating numbers of 4 bytes; their bits have 8 digits",
         ),
         (DOUBLE, r#"[3,"0x7fc00000"]"#, "0x7fc00000 is none of the floating numbers of 8 bytes; their bits have 16 digits"),
-        (DOUBLE, "[3,1e400]", "1e400, where a number should be, or a string of 0x and the 8 or 16 hexadecimal digits"),
-        (DOUBLE, "[3,null]", "null, where a number should be"),
-        (DOUBLE, "[3,[4,\n5]]", "a list, where a number should be"),
-        (DOUBLE, "[3,{\"x\":\n4}]", "an object, where a number should be"),
-        (DOUBLE, r#"[3,"7ff8000000000000"]"#, "\"7ff8000000000000\", where a number should be"),
-        (DOUBLE, r#"[3,"0x+ff8000000000000"]"#, "\"0x+ff8000000000000\", where a number should be"),
+        (
+            DOUBLE,
+            "[3,1e400]",
+            "1e400, where a number that a double holds should be, or a string of 0x and the 8 or 16 hexadecimal digits",
+        ),
+        (DOUBLE, "[3,null]", "null, where a number that a double holds should be"),
+        (DOUBLE, "[3,[4,\n5]]", "a list, where a number that a double holds should be"),
+        (DOUBLE, "[3,{\"x\":\n4}]", "an object, where a number that a double holds should be"),
+        (DOUBLE, r#"[3,"7ff8000000000000"]"#, "\"7ff8000000000000\", where a number that a double holds should be"),
+        (DOUBLE, r#"[3,"0x+ff8000000000000"]"#, "\"0x+ff8000000000000\", where a number that a double holds should be"),
         (DOUBLE, "[3,4],[5,6,7]", "a point of 3 numbers after points of 2"),
         (DOUBLE, "[3]", "expected a point, a list of two or three numbers"),
         (DOUBLE, "[3,4,5,6]", "expected a point, a list of two or three numbers"),
@@ -157,7 +161,7 @@ fn integers_are_taken_by_what_they_are() {
     }
 }
 
-/// The table of Q as it was printed before its head had a `format`.
+/// The table of Q as it was printed before its head had a `format`; of the rest there is one byte.
 const OLD_HEAD: &str = "{\"sxf\":\"4.0\",\"date\":\"\",\"designation\":\"41\",\"scale\":0,\"title\":\"\",\"rest\":\"03\",\
                         \"designation2\":\"41\",\"flags\":\"03000000\",\"records\":1}\n";
 const OLD_RECORD: &str = "{\"code\":0,\"number_in_group\":0,\"group_number\":0,\"reference\":514,\"generalisation\":255,\"word\":0,\
@@ -189,14 +193,37 @@ fn a_line_of_the_old_kind_is_refused() {
 fn a_byte_order_mark_is_named() {
     let folder = Folder::new("mark");
     let table = on("table", &sample("Q"), &[]).stdout;
-    let utf16: Vec<u8> = table.iter().flat_map(|&byte| [byte, 0]).collect();
-    for (mark, lines, coding) in
-        [(&[0xEF, 0xBB, 0xBF][..], &table, "UTF-8"), (&[0xFF, 0xFE], &utf16, "UTF-16"), (&[0xFE, 0xFF], &utf16, "UTF-16")]
-    {
-        let output = write(&[mark, lines].concat(), &folder.file("q.sxf"), &[]);
+    let (utf8, utf16): (&[u8], Vec<u8>) = (&[0xEF, 0xBB, 0xBF], table.iter().flat_map(|&byte| [byte, 0]).collect());
+    for (lines, line, coding) in [
+        ([utf8, &table].concat(), 1, "UTF-8"),
+        ([&table, utf8, &table].concat(), 3, "UTF-8"),
+        ([&[0xFF, 0xFE], &utf16[..]].concat(), 1, "UTF-16"),
+        ([&[0xFE, 0xFF, 0], &utf16[..]].concat(), 1, "UTF-16"),
+    ] {
+        let output = write(&lines, &folder.file("q.sxf"), &[]);
         assert_eq!(status(&output), 2);
-        let line = format!("line 1 begins with a byte-order mark of {coding}; save the lines as UTF-8 without one\n");
+        let line = format!("line {line} begins with a byte-order mark of {coding}; save the lines as UTF-8 without one\n");
         assert!(told(&output).ends_with(&line), "{}", told(&output));
+    }
+    assert_eq!(folder.names(), [""; 0]);
+}
+
+/// What is no JSON line of a table, told in words that say so.
+#[test]
+fn what_is_no_line_is_told() {
+    let folder = Folder::new("no-line");
+    let table = on("table", &sample("Q"), &[]).stdout;
+    let slurped = format!("[{}]", String::from_utf8_lossy(&table).trim_end().replace('\n', ",")).into_bytes();
+    for (lines, line) in [
+        (fs::read(sample("Q")).expect("a sample"), "-: line 1 is a sheet's, and not its lines; `sxf table` prints them\n"),
+        (slurped, "invalid type: sequence, expected the head, an object\n"),
+        (b"[]".to_vec(), "invalid type: sequence, expected the head, an object\n"),
+        (b"null".to_vec(), "expected the head, an object\n"),
+        ([&table[..], b"[1]"].concat(), "invalid type: sequence, expected a record, an object\n"),
+    ] {
+        let output = write(&lines, &folder.file("q.sxf"), &[]);
+        assert_eq!(status(&output), 2);
+        assert!(told(&output).ends_with(line), "{}", told(&output));
     }
     assert_eq!(folder.names(), [""; 0]);
 }
@@ -210,11 +237,11 @@ fn a_value_may_go_over_several_lines() {
     assert!(fs::read(folder.file("q.sxf")).expect("a sheet") == fs::read(sample("Q")).expect("a sample"));
     let broken = changed("[[3,4]]", "[\n[3,\nnull]\n\n]");
     let line = told(&write(&broken, &folder.file("r.sxf"), &[]));
-    assert!(line.contains("line 4: column 5: null, where a number should be"), "{line}");
+    assert!(line.contains("line 4: column 5: null, where a number that a double holds should be"), "{line}");
     // Brackets and quotation marks in a string are none of the value's.
-    let strings = changed("\"code\":0", "\"]\\\"}\":0,\n\"code\":0");
+    let strings = changed("\"sxf\":\"4.0\",", "\"sxf\":\"4]\\\"}\",\n");
     let line = told(&write(&strings, &folder.file("r.sxf"), &[]));
-    assert!(line.contains("line 2: column 7: unknown field `]\"}`"), "{line}");
+    assert!(line.contains("the head: sxf is \"4]\\\"}\", where this writes \"4.0\""), "{line}");
     assert_eq!(folder.names(), ["q.sxf"]);
 }
 
@@ -229,6 +256,7 @@ fn changed(from: &str, to: &str) -> Vec<u8> {
 fn a_refused_table_is_told_with_its_line() {
     let folder = Folder::new("refused");
     for (from, to, line) in [
+        ("\"reference\":514,", "\"reference\":16777730,", "(line 2, record 0, reference bytes)"),
         (
             "\"reference\":514",
             "\"reference\":18446744073709551615",
@@ -253,9 +281,9 @@ fn bad_json_is_told_with_its_line() {
     for (from, to, line) in [
         ("\"code\":0", "\"cod\":0", "line 2: column 6: unknown field `cod`"),
         ("\"word\":0,", "", "line 2: column "),
-        ("\"word\":0,", "\"word\":-1,", "-1, where an integer from 0 to 18446744073709551615 should be"),
-        ("\"word\":0,", "\"word\":0.5,", "0.5, where an integer from 0 to 18446744073709551615 should be"),
-        ("\"word\":0,", "\"word\":\"0\",", "\"0\", where an integer from 0 to 18446744073709551615 should be"),
+        ("\"word\":0,", "\"word\":-1,", "-1, where an integer of at most 64 bits, from 0 on, should be"),
+        ("\"word\":0,", "\"word\":0.5,", "0.5, where an integer of at most 64 bits, from 0 on, should be"),
+        ("\"word\":0,", "\"word\":\"0\",", "\"0\", where an integer of at most 64 bits, from 0 on, should be"),
         ("\"word\":0,", "\"word\":18446744073709551616,", "line 2: column "),
         ("\"f904\"", "\"f90\"", "hexadecimal digits, two a byte"),
         ("[3,4]", "[3,4,5]", "line 2: part 0: points of 3 numbers, where the record's have 2"),
@@ -263,12 +291,13 @@ fn bad_json_is_told_with_its_line() {
         ("\"format\":2", "\"format\":3", "line 1: format is 3, where this reads 2; write the sheet by the sxf that printed it"),
         ("\"format\":2,", "\"format\":3,\"more\":0,", "line 1: format is 3, where this reads 2"),
         ("\"format\":2", "\"format\":\"2\"", "line 1: format is \"2\", where this reads 2"),
-        ("\"scale\":0", "\"scale\":4294967296", "4294967296, where an integer from 0 to 4294967295 should be"),
+        ("\"scale\":0", "\"scale\":4294967296", "4294967296, where an integer of at most 32 bits, from 0 on, should be"),
         ("\"code\":0", "\"\\n\\u001b[2J\":0", "unknown field `\\n\\u{1b}[2J`"),
         ("\"flags\":\"03000000\"", "\"flags\":\"0300\"", "the head: flags has 2 bytes, where it has 4 in a sheet"),
         ("\"sxf\":\"4.0\"", "\"sxf\":\"5.0\"", "the head: sxf is \"5.0\""),
         ("\"records\":1", "\"records\":2", "records are 1, where the head says 2"),
         ("}]}\n", "", "line 2: column "),
+        ("{\"points\":[[3,4]]}", "[[[3,4]]]", "invalid type: sequence, expected a part, an object"),
     ] {
         let output = write(&changed(from, to), &folder.file("q.sxf"), &[]);
         assert_eq!(status(&output), 2, "{to}");

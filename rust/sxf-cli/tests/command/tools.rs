@@ -8,9 +8,11 @@ use std::path::Path;
 use std::process::Command;
 use sxf::{ElementKind, Number, Setting, Sheet};
 
-/// Lines as they are, over several lines, with sorted keys, every integer as a double (`3.0`), and every number with 18 digits.
-const TOOLS: [&str; 7] = [
+/// Lines as they are, every number as the tool computes with it, over several lines, with sorted keys, every integer as a double (`3.0`), and every
+/// number with 18 digits.
+const TOOLS: [&str; 8] = [
     "jq -c .",
+    "jq -c 'walk(if type == \"number\" then . + 0 else . end)'",
     "jq .",
     "jq -cS .",
     "python3 -c 'import json, sys; [print(json.dumps(json.loads(line))) for line in sys.stdin]'",
