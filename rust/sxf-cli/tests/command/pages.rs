@@ -3,6 +3,7 @@
 use crate::run::{top, Folder};
 use std::env;
 use std::fs;
+use std::os::unix::fs::symlink;
 use std::path::Path;
 use std::process::Command;
 
@@ -29,7 +30,7 @@ fn shown(page: &str) -> Vec<(String, String)> {
 /// A folder as the top of the repository, in which commands may leave their files.
 fn room(name: &str) -> Folder {
     let folder = Folder::new(name);
-    std::os::unix::fs::symlink(top().join("samples"), folder.file("samples")).expect("a link");
+    symlink(top().join("samples"), folder.file("samples")).expect("a link");
     folder
 }
 

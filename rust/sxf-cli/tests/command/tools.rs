@@ -1,4 +1,5 @@
-//! `sxf table F | TOOL | sxf write` gives F's bytes for every tool that keeps doubles. `jq` and `python3` are Debian's; .ci/packages installs them.
+//! `sxf table F | TOOL | sxf write` gives F's bytes for every tool that keeps doubles. `jq` and `python3` are Debian's, which .ci/packages installs,
+//! whatever else of these names there is.
 use crate::drawn;
 use crate::run::{sample, Folder, ACCEPTED};
 use std::collections::BTreeSet;
@@ -23,13 +24,16 @@ printed = lambda m: m[0] if m[0][0] == "\"" else "%.17e" % float(m[0])
 [print(re.sub(r"\"[^\"]*\"|[-+.0-9eE]+", printed, line), end="") for line in sys.stdin]'"#,
 ];
 
+/// Where Debian's tools are.
+const PATH: &str = "/usr/bin:/bin";
+
 /// Sees that a sheet comes back through each tool.
-fn comes_back(folder: &Folder, sheet: &Path, tools: &[&str]) {
+fn comes_back(folder: &Folder, sheet: &Path) {
     let bytes = fs::read(sheet).expect("a sheet");
-    for tool in tools {
+    for tool in TOOLS {
         let mut shell = Command::new("sh");
         shell.args(["-c", &format!("\"$SXF\" table \"$SHEET\" | {tool} | \"$SXF\" write - -o again.sxf --force")]);
-        shell.env("SXF", env!("CARGO_BIN_EXE_sxf")).env("SHEET", sheet).current_dir(&folder.0);
+        shell.env("SXF", env!("CARGO_BIN_EXE_sxf")).env("SHEET", sheet).env("PATH", PATH).current_dir(&folder.0);
         let done = shell.output().expect("sh runs");
         assert!(done.status.success(), "{} through {tool}: {}", sheet.display(), String::from_utf8_lossy(&done.stderr));
         assert!(fs::read(folder.file("again.sxf")).expect("a sheet") == bytes, "{} through {tool}", sheet.display());
@@ -40,7 +44,7 @@ fn comes_back(folder: &Folder, sheet: &Path, tools: &[&str]) {
 fn samples_come_back_through_tools() {
     let folder = Folder::new("samples-through-tools");
     for name in ACCEPTED {
-        comes_back(&folder, &sample(name), &TOOLS);
+        comes_back(&folder, &sample(name));
     }
 }
 
@@ -48,11 +52,11 @@ fn samples_come_back_through_tools() {
 fn drawn_sheets_come_back_through_tools() {
     let folder = Folder::new("drawn-through-tools");
     let mut met = BTreeSet::new();
-    for number in 0..12 {
+    for number in 0..20 {
         let bytes = drawn::sheet(number);
         met.extend(classes(&bytes));
         fs::write(folder.file("drawn.sxf"), &bytes).expect("a file");
-        comes_back(&folder, &folder.file("drawn.sxf"), &TOOLS);
+        comes_back(&folder, &folder.file("drawn.sxf"));
     }
     assert_eq!(met, every_class(), "what was tried is every kind of element");
 }
