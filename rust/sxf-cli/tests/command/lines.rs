@@ -256,7 +256,12 @@ fn changed(from: &str, to: &str) -> Vec<u8> {
 fn a_refused_table_is_told_with_its_line() {
     let folder = Folder::new("refused");
     for (from, to, line) in [
-        ("\"reference\":514,", "\"reference\":16777730,", "(line 2, record 0, reference bytes)"),
+        // This is no reference number, and does not say elements are stored, so they are not judged by it.
+        (
+            "\"reference\":514,\"generalisation\":255,\"word\":0,\"parts\":[{\"points\":[[3,",
+            "\"reference\":16777730,\"generalisation\":255,\"word\":0,\"parts\":[{\"points\":[[0.5,",
+            "refusal 14 TABLE at 3 (0x3): the record table is not well formed here (line 2, record 0, reference bytes)",
+        ),
         (
             "\"reference\":514",
             "\"reference\":18446744073709551615",
