@@ -256,7 +256,7 @@ fn changed(from: &str, to: &str) -> Vec<u8> {
 fn a_refused_table_is_told_with_its_line() {
     let folder = Folder::new("refused");
     for (from, to, line) in [
-        // This is no reference number, and does not say elements are stored, so they are not judged by it.
+        // This is no reference number, and does not say how elements are stored, so they are not judged by it.
         (
             "\"reference\":514,\"generalisation\":255,\"word\":0,\"parts\":[{\"points\":[[3,",
             "\"reference\":16777730,\"generalisation\":255,\"word\":0,\"parts\":[{\"points\":[[0.5,",
