@@ -205,7 +205,7 @@ mod tests {
 
     /// All singles that are not negative; the others differ in their sign alone.
     #[test]
-    #[ignore = "it takes half an hour"]
+    #[ignore = "it takes some twenty minutes"]
     fn every_single_comes_back_from_a_line() {
         for bits in 0..=0x7FFF_FFFF {
             assert_eq!(printed(ElementKind::Single, bits).1, Some(bits));
