@@ -252,10 +252,22 @@ fn changed(from: &str, to: &str) -> Vec<u8> {
     table.replace(from, to).into_bytes()
 }
 
+/// Each change of Q's table ends with this exit status, is told with these words, and leaves no file.
+fn each_is_told(folder: &str, ends: i32, cases: &[(&str, &str, &str)]) {
+    let folder = Folder::new(folder);
+    for (from, to, words) in cases {
+        let output = write(&changed(from, to), &folder.file("q.sxf"), &[]);
+        assert_eq!(status(&output), ends, "{words}");
+        assert!(told(&output).contains(words), "{words}: {}", told(&output));
+    }
+    assert_eq!(folder.names(), [""; 0]);
+}
+
 #[test]
 fn a_refused_table_is_told_with_its_line() {
-    let folder = Folder::new("refused");
-    for (from, to, line) in [
+    // A first part of so many points has their count in the word.
+    let many = format!("[{}]", vec!["[3,4]"; 65535].join(","));
+    let cases = [
         // This is no reference number, and does not say how elements are stored, so they are not judged by it.
         (
             "\"reference\":514,\"generalisation\":255,\"word\":0,\"parts\":[{\"points\":[[3,",
@@ -269,26 +281,22 @@ fn a_refused_table_is_told_with_its_line() {
         ),
         ("\"reference\":514", "\"reference\":2", "(line 2, record 0, items)"),
         ("\"f904\"", "\"f9\"", "(line 2, record 0, item 0, value length)"),
+        ("[[3,4]]", &many, "(line 2, record 0, part 0, points)"),
         ("[[3,4]]", "[[3,4]],\"text\":\"41\"", "(line 2, record 0, part 0, text length)"),
         ("\"type\":2", "\"type\":3", "refusal 12 SEMANTIC at 11 (0xb)"),
         ("\"designation\":\"41\"", "\"designation\":\"4100\"", "refusal 6 TEXT at 28 (0x1c)"),
-    ] {
-        let output = write(&changed(from, to), &folder.file("q.sxf"), &[]);
-        assert_eq!(status(&output), 1, "{to}");
-        assert!(told(&output).contains(line), "{to}: {}", told(&output));
-    }
-    assert_eq!(folder.names(), [""; 0]);
+    ];
+    each_is_told("refused", 1, &cases);
 }
 
 #[test]
 fn bad_json_is_told_with_its_line() {
-    let folder = Folder::new("json");
-    for (from, to, line) in [
+    let cases = [
         ("\"code\":0", "\"cod\":0", "line 2: column 6: unknown field `cod`"),
         ("\"word\":0,", "", "line 2: column "),
-        ("\"word\":0,", "\"word\":-1,", "-1, where an integer of at most 64 bits, from 0 on, should be"),
-        ("\"word\":0,", "\"word\":0.5,", "0.5, where an integer of at most 64 bits, from 0 on, should be"),
-        ("\"word\":0,", "\"word\":\"0\",", "\"0\", where an integer of at most 64 bits, from 0 on, should be"),
+        ("\"word\":0,", "\"word\":-1,", "line 2: column 93: -1, where an integer of at most 64 bits, from 0 on, should be"),
+        ("\"word\":0,", "\"word\":0.5,", "line 2: column 94: 0.5, where an integer of at most 64 bits, from 0 on, should be"),
+        ("\"word\":0,", "\"word\":\"0\",", "line 2: column 94: \"0\", where an integer of at most 64 bits, from 0 on, should be"),
         ("\"word\":0,", "\"word\":18446744073709551616,", "line 2: column "),
         ("\"f904\"", "\"f90\"", "hexadecimal digits, two a byte"),
         ("[3,4]", "[3,4,5]", "line 2: part 0: points of 3 numbers, where the record's have 2"),
@@ -296,18 +304,20 @@ fn bad_json_is_told_with_its_line() {
         ("\"format\":2", "\"format\":3", "line 1: format is 3, where this reads 2; write the sheet by the sxf that printed it"),
         ("\"format\":2,", "\"format\":3,\"more\":0,", "line 1: format is 3, where this reads 2"),
         ("\"format\":2", "\"format\":\"2\"", "line 1: format is \"2\", where this reads 2"),
-        ("\"scale\":0", "\"scale\":4294967296", "4294967296, where an integer of at most 32 bits, from 0 on, should be"),
+        (
+            "\"scale\":0",
+            "\"scale\":4294967296",
+            "line 1: column 71: 4294967296, where an integer of at most 32 bits, from 0 on, should be",
+        ),
         ("\"code\":0", "\"\\n\\u001b[2J\":0", "unknown field `\\n\\u{1b}[2J`"),
         ("\"flags\":\"03000000\"", "\"flags\":\"0300\"", "the head: flags has 2 bytes, where it has 4 in a sheet"),
         ("\"sxf\":\"4.0\"", "\"sxf\":\"5.0\"", "the head: sxf is \"5.0\""),
         ("\"records\":1", "\"records\":2", "records are 1, where the head says 2"),
         ("}]}\n", "", "line 2: column "),
-        ("{\"points\":[[3,4]]}", "[[[3,4]]]", "invalid type: sequence, expected a part, an object"),
-    ] {
-        let output = write(&changed(from, to), &folder.file("q.sxf"), &[]);
-        assert_eq!(status(&output), 2, "{to}");
-        assert!(told(&output).contains(line), "{to}: {}", told(&output));
-    }
+        ("{\"points\":[[3,4]]}", "[[[3,4]]]", "line 2: column 102: invalid type: sequence, expected a part, an object"),
+    ];
+    each_is_told("json", 2, &cases);
+    let folder = Folder::new("no-json");
     for none in [&b""[..], b"\n\n"] {
         assert!(told(&write(none, &folder.file("q.sxf"), &[])).contains("no line, where the head should be"));
     }
