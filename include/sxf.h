@@ -3,7 +3,7 @@
  *
  * Answers. Each call takes every value of its arguments and answers one struct by value. number is 0 (SXF_OK) on success. Else it is
  * the number of the refusal, with its place and year, and every other field is 0. The place is a byte of the sheet, from 0, or for
- * sxf_write's table an index of the table; the year is 0 except for SXF_TOO_NEW. (sxf_visibility has no refusal; what the place of a
+ * sxf_write's table an index of the table, or an index of the text for SXF_NO_CHARACTER; the year is 0 except for SXF_TOO_NEW. (sxf_visibility has no refusal; what the place of a
  * refusal counts from where no sheet is lent is said beside the call.)
  *
  * Years. A sheet is read or written for a year, one of 1999, 2004, 2006, 2008, 2012, 2014, 2015, 2016 and 2017: what came later is
@@ -11,10 +11,10 @@
  *
  * What is lent. A pointer and the length after it, in elements, are one argument: so many elements can be read there or, where the
  * pointer is not const, read and written, and nothing else writes to them before the call returns. No pointer is null, one of length 0
- * neither: give the address of any object. A pointer to uint64_t is aligned as one.
+ * neither: give the address of any object. A pointer to uint64_t or uint16_t is aligned as one.
  *
- * What is written. Only table, elements and bytes of sxf_unfold and out of sxf_write are written to. None of these may overlap another
- * argument of the same call. A refusal leaves them as they were; success writes only the lengths that the answer states, from the start
+ * What is written. Only table, elements and bytes of sxf_unfold, out of sxf_write, units of sxf_to_utf16 and text of sxf_from_utf16 are
+ * written to. None of these may overlap another argument of the same call. A refusal leaves them as they were; success writes only the lengths that the answer states, from the start
  * of each. Nothing is kept after a call, nothing is allocated, and calls in several threads do not disturb one another.
  */
 #ifndef SXF_H
@@ -45,8 +45,10 @@ enum {
     SXF_SEMANTIC = 12,    /* an item's type, scale or length */
     SXF_LEFT_OVER = 13,   /* bytes after the last record */
     SXF_TABLE = 14,       /* a record table that is no table of a sheet (sxf_write), or a reference or bits too large (sxf_coordinate_of) */
-    SXF_ROOM = 15,        /* a lent output is too small; sxf_unfold: place 1 table, 2 elements, 3 bytes; sxf_write: place 0 */
-    SXF_ASK = 16          /* the year is none of the nine, the record's number is not below the count, or a point has no such dimension; place 0 */
+    SXF_ROOM = 15,        /* a lent output is too small; sxf_unfold: place 1 table, 2 elements, 3 bytes; else place 0 */
+    SXF_ASK = 16,         /* the year is none of the nine, the record's number is not below the count, a point has no such dimension, or
+                             there is no such coding; place 0 */
+    SXF_NO_CHARACTER = 17 /* a byte has no character, or a 16-bit unit has no byte, in the coding; the place is its index in the text */
 };
 
 /* Places in a sheet. Each text starts at its place and has the length that sxf_head_of answers. The carried bytes are the rest of the
@@ -188,7 +190,7 @@ typedef struct {
    SXF_SEMANTIC at place 3 of the item, and a type that is none of these, SXF_SEMANTIC at 2. */
 sxf_value sxf_value_of(uint8_t kind, uint8_t scale, uint64_t bits);
 
-/* How many bytes of out are the sheet. */
+/* How much of the output was written: bytes of a sheet or of a text, or 16-bit units. */
 typedef struct {
     uint64_t number, place, year, length;
 } sxf_written;
@@ -210,6 +212,25 @@ sxf_written sxf_write(uint32_t year,
                       const uint64_t *elements, size_t elements_len,
                       const uint8_t *bytes, size_t bytes_len,
                       uint8_t *out, size_t out_len);
+
+/* Codings of text, one byte a character, by the number that a sheet has at byte 97 for its labels. A record whose Unicode bit is set has its
+   labels in UTF-16 instead, lowest byte first. Of semantic items type 0 is SXF_DOS, type 126 SXF_WINDOWS, and types 127 and 128 are UTF-16;
+   the texts of passport and descriptor are SXF_WINDOWS. */
+enum {
+    SXF_DOS = 0,     /* code page 866 */
+    SXF_WINDOWS = 1, /* code page 1251, whose byte 0x98 has no character */
+    SXF_KOI8 = 2     /* KOI8-R */
+};
+
+/*
+ * Turns text of a coding into UTF-16, one unit a byte, and back, one byte a unit; all bytes are turned, zeros and controls too. Turning there
+ * and back gives the same bytes. length is how many were written, which is text_len there and units_len back. Refused are, in this order, a
+ * coding that is none of the three, SXF_ASK; the first byte that has no character, or unit that has no byte, SXF_NO_CHARACTER at its index,
+ * however short the output is; an output too short, SXF_ROOM.
+ */
+sxf_written sxf_to_utf16(uint32_t coding, const uint8_t *text, size_t text_len, uint16_t *units, size_t units_len);
+
+sxf_written sxf_from_utf16(uint32_t coding, const uint16_t *units, size_t units_len, uint8_t *text, size_t text_len);
 
 #ifdef __cplusplus
 }

@@ -1,5 +1,6 @@
--- Laws that know nothing of sheets: lists, walks and their answers, readers, numbers, texts, rows of fields.
+-- Laws that know nothing of sheets: lists, tests over a whole table, walks and their answers, readers, numbers, texts, rows of fields.
 pub mod Lists
+pub mod Every
 pub mod Walks
 pub mod Chains
 pub mod Readers

@@ -1,9 +1,10 @@
--- The theorems about document 01's definitions: first what is promised, then the cases, then what the theorems rest on.
+-- The theorems about the definitions of documents 01 and 02: first what is promised, then the cases, then what the theorems rest on.
 pub mod Exact
 pub mod Years
 pub mod Newest
 pub mod Again
 pub mod Bounds
+pub mod Codings
 pub mod Marked
 pub mod Cases
 pub mod Samples

@@ -1,8 +1,9 @@
--- What document 01 says, as definitions. What a public call answers is said by these; nobody has to believe anything else.
+-- What document 01 says, and what of document 02 has landed, as definitions. What a public call answers is said by these; nobody has to believe anything else.
 --
--- A line in quotation marks is document 01's own. To check a page against the document it is enough to know:
+-- A line in quotation marks is document 01's own, or document 02's where it says so. To check a page against them it is enough to know:
 --   ℕ                      a number from 0 on, as large as it may be: nothing wraps
 --   a ∷ b ∷ []             a list of a and b;  s ++ t  one list after another;  length, take n, drop n  as they say
+--   getD s n d             what stands at index n of the list s, or d past its end;  map f s  the list of f of each
 --   leb a b, ltb a b       the tests a ≤ b and a < b;  eqb a b  that they are equal;  && || not  as in any language
 --   a - b                  the difference, or 0 where b is the larger
 --   cond test a b          a if the test holds, else b
@@ -24,4 +25,5 @@ pub mod Reading
 pub mod Layout
 pub mod Writing
 pub mod Answers
+pub mod Codings
 pub mod Computing

@@ -1,4 +1,4 @@
--- The sixteen refusals by document 01's numbers and names. (01, The refusals)
+-- The refusals by the documents' numbers and names: sixteen of document 01 (The refusals), and those of the requests of 02.
 use Prim.Native.Nat.{ℕ}
 
 -- the sheet is over the limit
@@ -61,6 +61,10 @@ TABLE = 14
 abbrev pub ROOM : ℕ
 ROOM = 15
 
--- the setting is not one of nine, or the record number is not below the count
+-- the setting is not one of nine, or the record number is not below the count; "16 for any other coding" (02, request 1)
 abbrev pub ASK : ℕ
 ASK = 16
+
+-- a byte has no character, or a 16-bit unit no byte (02, request 1)
+abbrev pub NO-CHARACTER : ℕ
+NO-CHARACTER = 17

@@ -3,6 +3,7 @@
 
 pub mod bounds;
 pub mod carried;
+pub mod codings;
 pub mod descriptor;
 pub mod header;
 pub mod item;
@@ -17,8 +18,8 @@ pub mod structs;
 pub mod subobject;
 pub mod years;
 
-// One named refusal: document 01's number, the place (a byte of the sheet, or an index of the table), and the year, which is 0
-// except for TOO NEW.
+// One named refusal: the documents' number, the place (a byte of the sheet, or an index of the table or the text), and the year, which
+// is 0 except for TOO NEW.
 pub struct Refusal {
     pub number: u32,
     pub place: usize,
@@ -76,7 +77,7 @@ pub enum Headed {
     Refused(Refusal),
 }
 
-// What writing a sheet answers: how many bytes of the lent slice are the sheet.
+// What writing a sheet or turning a text answers: how much of the lent slice, from its start, was written.
 pub enum Written {
     Length(usize),
     Refused(Refusal),

@@ -1,4 +1,4 @@
-// The sixteen refusals by document 01's numbers and names. (specs/Refusals.antt says when each is given)
+// The refusals by the documents' numbers and names. (specs/Refusals.antt says when each is given)
 pub const TOO_LONG: u32 = 1;
 
 pub const SHORT: u32 = 2;
@@ -30,3 +30,5 @@ pub const TABLE: u32 = 14;
 pub const ROOM: u32 = 15;
 
 pub const ASK: u32 = 16;
+
+pub const NO_CHARACTER: u32 = 17;

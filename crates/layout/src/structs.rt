@@ -13,7 +13,7 @@ pub struct SxfChecked {
     pub bytes: u64,
 }
 
-// number 0: written, so many bytes. Otherwise the refusal, and the length is 0.
+// number 0: written, so many bytes or 16-bit units. Otherwise the refusal, and the length is 0.
 #[repr(C)]
 pub struct SxfWritten {
     pub number: u64,

@@ -30,8 +30,8 @@ use Rattle.promises.proofs.Rooms.{Fit, rooms-on, roomy-back, part-again
 use Rattle.promises.specs.Hands.{headBy, tableBy, TableWithin}
 use Rattle.reading.proofs.Laws.Seen.{by-accepted}
 
--- a sheet of n bytes was written: which
-by-length : (a : Answer (List ℕ)) (n : ℕ) → Write.Length n ≡ writtenOf a → (s : List ℕ) × (a ≡ given s) × (n ≡ length s)
+-- a list of length n was written: which
+pub by-length : (a : Answer (List ℕ)) (n : ℕ) → Write.Length n ≡ writtenOf a → (s : List ℕ) × (a ≡ given s) × (n ≡ length s)
 unfolding writtenOf
 by-length (given s) n e = (s, refl, cc)
 by-length (refused m p z) n e = absurd (let x : _≡_ {A = ℕ} 0 1 = cc in omega arith)

@@ -8,11 +8,17 @@ use borrow.Fn.Kinds.{PK, RK, Dens, Out, resT, endedOf}
 use contract.Lifetimes.{Lfts}
 use denote.Ref.{now}
 use denote.Triple.Clauses.{AtExit}
+use Rattle.codings.proofs.utf16.from_utf16.Kinds as from-utf16-kinds
+use Rattle.codings.proofs.utf16.from_utf16.Reads as from-utf16
+use Rattle.codings.proofs.utf16.to_utf16.Kinds as to-utf16-kinds
+use Rattle.codings.proofs.utf16.to_utf16.Reads as to-utf16
 use Rattle.layout.specs.Answers.Calls.{reading, roomy, unfolded, asked, written, lent}
 use Rattle.layout.specs.Answers.Coordinates.{measureOf}
 use Rattle.layout.specs.Answers.Enums.{checkedOf, foundOf, headedOf, unitIn, cornersIn, writtenOf}
-use Rattle.layout.specs.Answers.Lent.{headOf, rooms, theNumbers, theElements, theBytes, theSheet}
+use Rattle.layout.specs.Answers.Lent.{headOf, rooms, theNumbers, theElements, theBytes, theSheet, theTurned}
+use Rattle.layout.specs.Codings.Turning.{toUtf16, fromUtf16}
 use Rattle.layout.specs.Sheet.{Head, Table}
+use Rattle.layout.specs.Walk.{Answer}
 use Rattle.layout.specs.Writing.Tables.{table}
 use Rattle.layout.specs.declared.Checked.{Checked}
 use Rattle.layout.specs.declared.Corners.{Corners}
@@ -153,3 +159,15 @@ pub write-by-year-says : Says write-by-year-kinds.ps write-by-year-kinds.r write
     (table (now (a .1 .1 .1 .1 .1 .1 .1 .0)) (now (a .1 .1 .1 .1 .1 .1 .1 .1 .0)) (now (a .1 .1 .1 .1 .1 .1 .1 .1 .1 .0)))
     (now (a .1 .1 .1 .1 .1 .1 .1 .1 .1 .1 .1 .0)) (now (e .1 .1 .1 .1 .1 .1 .1 .1 .1 .1 .1 .0)) x)
 write-by-year-says κs a x e p = p
+
+-- `to_utf16` and `from_utf16`, of a list in a coding, into a slice that held o and then holds out; turn is the definition of the call
+abbrev pub Turns : (ℕ → List ℕ → ℕ → Answer (List ℕ)) → ℕ → (xs o out : List ℕ) → Written → Type 0
+Turns turn coding xs o out r = (r ≡ writtenOf (turn coding xs (length o))) × (out ≡ lent theTurned (turn coding xs (length o)) o)
+
+pub to-utf16-says : Says to-utf16-kinds.ps to-utf16-kinds.r to-utf16.Post
+    (λ κs a x e. Turns toUtf16 (a .0) (now (a .1 .0)) (now (a .1 .1 .0)) (now (e .1 .1 .0)) x)
+to-utf16-says κs a x e p = p
+
+pub from-utf16-says : Says from-utf16-kinds.ps from-utf16-kinds.r from-utf16.Post
+    (λ κs a x e. Turns fromUtf16 (a .0) (now (a .1 .0)) (now (a .1 .1 .0)) (now (e .1 .1 .0)) x)
+from-utf16-says κs a x e p = p

@@ -8,6 +8,7 @@ pub mod Again
 pub mod Later
 pub mod Stored
 pub mod Elements
+pub mod Codings
 pub mod Heads
 pub mod Rooms
 pub mod Trips

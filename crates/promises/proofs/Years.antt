@@ -224,7 +224,7 @@ unfold-2017 s t₀ e₀ b₀ t₁ e₁ b₁ place year q c e =
     let r = rooms t₀ e₀ b₀ in
     Law.at-2017-roomy s r place year (checked-back (roomy 2017 s r) (tooNew place year) (sym e ∙ c .0))
 
-written-back : (a : Answer (List ℕ)) (q : Refusal) → Write.Refused q ≡ writtenOf a → a ≡ refused (q .number) (q .place) (q .year)
+pub written-back : (a : Answer (List ℕ)) (q : Refusal) → Write.Refused q ≡ writtenOf a → a ≡ refused (q .number) (q .place) (q .year)
 unfolding writtenOf
 written-back (given t) q e = absurd (let i : _≡_ {A = ℕ} 0 1 = cc in omega arith)
 written-back (refused n p y) q e = cc

@@ -1,5 +1,9 @@
 -- Each call has one right answer for each input: two results that meet its contract are equal, and so is what they leave in the lent
 -- slices.
+use Rattle.sxf.proofs.texts.sxf_from_utf16.Kinds as from-kinds
+use Rattle.sxf.proofs.texts.sxf_from_utf16.Reads as from-utf16
+use Rattle.sxf.proofs.texts.sxf_to_utf16.Kinds as to-kinds
+use Rattle.sxf.proofs.texts.sxf_to_utf16.Reads as to-utf16
 use Rattle.sxf.proofs.coordinates.sxf_coordinate_of.Kinds as coordinate-of-kinds
 use Rattle.sxf.proofs.coordinates.sxf_coordinate_of.Reads as coordinate-of
 use Rattle.sxf.proofs.heads.sxf_corners_of.Kinds as corners-of-kinds
@@ -68,3 +72,13 @@ once-sxf-value-of κs a x y e f p q = p ∙ sym q
 
 pub once-sxf-coordinate-of : Once coordinate-of-kinds.ps coordinate-of-kinds.r coordinate-of.Post
 once-sxf-coordinate-of κs a x y e f p q = p ∙ sym q
+
+pub once-sxf-to-utf16 : (κs : Lfts 2) (a : Dens κs to-kinds.ps) (x y : resT to-kinds.r κs .Denot)
+    (e f : AtExit (endedOf 2 to-kinds.ps to-kinds.r) κs)
+    → to-utf16.Post κs a x e → to-utf16.Post κs a y f → (x ≡ y) × (now (e .1 .1 .0) ≡ now (f .1 .1 .0))
+once-sxf-to-utf16 κs a x y e f p q = (p .0 ∙ sym (q .0), p .1 ∙ sym (q .1))
+
+pub once-sxf-from-utf16 : (κs : Lfts 2) (a : Dens κs from-kinds.ps) (x y : resT from-kinds.r κs .Denot)
+    (e f : AtExit (endedOf 2 from-kinds.ps from-kinds.r) κs)
+    → from-utf16.Post κs a x e → from-utf16.Post κs a y f → (x ≡ y) × (now (e .1 .1 .0) ≡ now (f .1 .1 .0))
+once-sxf-from-utf16 κs a x y e f p q = (p .0 ∙ sym (q .0), p .1 ∙ sym (q .1))

@@ -6,30 +6,11 @@ ghost use Rattle.layout.specs.Answers.Calls.{written, lent};
 ghost use Rattle.layout.specs.Answers.Enums.{writtenOf};
 ghost use Rattle.layout.specs.Writing.Tables.{table as tableOf};
 ghost use Rattle.layout.specs.Answers.Structs.{writtenRow};
-use layout::Written;
+use crate::written::written_row;
 use layout::descriptor;
 use layout::passport;
 use layout::structs::SxfWritten;
 use writing::sheets;
-
-fn written_row(w: Written) -> SxfWritten
-    ensures { λ r. ⌜ r ≡ writtenRow w ⌝ }
-{
-    match w {
-        Written::Length(n) => SxfWritten {
-            number: 0,
-            place: 0,
-            year: 0,
-            length: n as u64,
-        },
-        Written::Refused(r) => SxfWritten {
-            number: r.number as u64,
-            place: r.place as u64,
-            year: r.year as u64,
-            length: 0,
-        },
-    }
-}
 
 #[no_mangle]
 pub extern "C" fn sxf_write(

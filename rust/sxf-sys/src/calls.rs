@@ -121,7 +121,7 @@ pub struct Value {
     pub power: i64,
 }
 
-/// `sxf_written`: how many bytes of the output are the sheet.
+/// `sxf_written`: how much of the output was written: bytes of a sheet or of a text, or 16-bit units.
 #[repr(C)]
 #[derive(Clone, Copy, Debug, Default, PartialEq, Eq)]
 pub struct Written {
@@ -182,6 +182,10 @@ extern "C" {
         out: *mut u8,
         out_len: usize,
     ) -> Written;
+
+    pub fn sxf_to_utf16(coding: u32, text: *const u8, text_len: usize, units: *mut u16, units_len: usize) -> Written;
+
+    pub fn sxf_from_utf16(coding: u32, units: *const u16, units_len: usize, text: *mut u8, text_len: usize) -> Written;
 }
 
 #[cfg(test)]

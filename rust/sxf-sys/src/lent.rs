@@ -134,12 +134,26 @@ pub fn write(year: u32, from: &Contents<'_>, out: &mut [u8]) -> Written {
     }
 }
 
+/// Turns text of a coding, one of [`codings`](crate::codings), into UTF-16, one unit a byte.
+pub fn to_utf16(coding: u32, text: &[u8], units: &mut [u16]) -> Written {
+    // SAFETY: each pointer and length are one slice's, lent for the call; the output is borrowed mutably, so that the two do not overlap, and
+    // the call writes within its length.
+    unsafe { sxf_to_utf16(coding, text.as_ptr(), text.len(), units.as_mut_ptr(), units.len()) }
+}
+
+/// Turns UTF-16 into text of a coding, one of [`codings`](crate::codings), one byte a unit.
+pub fn from_utf16(coding: u32, units: &[u16], text: &mut [u8]) -> Written {
+    // SAFETY: as `to_utf16`.
+    unsafe { sxf_from_utf16(coding, units.as_ptr(), units.len(), text.as_mut_ptr(), text.len()) }
+}
+
 #[cfg(test)]
 mod tests {
     use super::*;
+    use crate::codings::{DOS, KOI8, WINDOWS};
     use crate::dimensions::{HEIGHT, NORTH};
     use crate::fields::passport::{in_rest, FLAGS, HEIGHT_UNIT, REST};
-    use crate::refusals::{ASK, OK, ROOM, SEMANTIC, SHORT, TABLE};
+    use crate::refusals::{ASK, NO_CHARACTER, OK, ROOM, SEMANTIC, SHORT, TABLE};
     use crate::{kinds, row, units};
 
     #[test]
@@ -183,6 +197,37 @@ mod tests {
         assert_eq!(check(&[], 2017).number, SHORT);
         assert_eq!(unfold(&[], 2017, &mut [], &mut [], &mut []).number, SHORT);
         assert_eq!(unfold_new(&[], 2017, [0; 3]).0.number, SHORT);
+        assert_eq!((to_utf16(DOS, &[], &mut []), from_utf16(DOS, &[], &mut [])), (Written::default(), Written::default()));
+    }
+
+    /// «Газ» in the three codings, and in UTF-16.
+    const GAS: [(u32, [u8; 3]); 3] = [(DOS, [0x83, 0xA0, 0xA7]), (WINDOWS, [0xC3, 0xE0, 0xE7]), (KOI8, [0xE7, 0xC1, 0xDA])];
+    const GAS_UNITS: [u16; 3] = [0x0413, 0x0430, 0x0437];
+
+    #[test]
+    fn texts_are_turned_there_and_back() {
+        for (coding, text) in GAS {
+            let (mut units, mut back) = ([9; 4], [9; 4]);
+            assert_eq!(to_utf16(coding, &text, &mut units), Written { length: 3, ..Written::default() });
+            assert_eq!(units, [GAS_UNITS[0], GAS_UNITS[1], GAS_UNITS[2], 9]);
+            assert_eq!(from_utf16(coding, &GAS_UNITS, &mut back), Written { length: 3, ..Written::default() });
+            assert_eq!(back, [text[0], text[1], text[2], 9]);
+        }
+    }
+
+    #[test]
+    fn a_text_that_is_not_turned_writes_nothing() {
+        let refused = |number, place| Written { number, place, ..Written::default() };
+        let mut units = [9; 2];
+        assert_eq!(to_utf16(3, &[0x98], &mut []), refused(ASK, 0));
+        assert_eq!(to_utf16(WINDOWS, &[0x41, 0x98, 0x98], &mut units), refused(NO_CHARACTER, 1));
+        assert_eq!(to_utf16(DOS, &[0x41, 0x98, 0x98], &mut units), refused(ROOM, 0));
+        assert_eq!(units, [9; 2]);
+        let mut text = [9];
+        assert_eq!(from_utf16(u32::MAX, &[0xFFFF], &mut text), refused(ASK, 0));
+        assert_eq!(from_utf16(KOI8, &[0x41, 0x42, 0xD83D], &mut text), refused(NO_CHARACTER, 2));
+        assert_eq!(from_utf16(KOI8, &[0x41, 0x42], &mut text), refused(ROOM, 0));
+        assert_eq!(text, [9]);
     }
 
     const Q: &[u8] = include_bytes!("../../../samples/Q.sxf");

@@ -8,7 +8,8 @@
 //! |---|---|
 //! | [`calls`] | the calls and the structs that they answer, as the header declares them |
 //! | [`lent`] | the same calls for slices that are lent: the one module with unsafe code |
-//! | [`refusals`] | the sixteen refusals |
+//! | [`refusals`] | the refusals |
+//! | [`codings`] | the codings that `sxf_to_utf16` and `sxf_from_utf16` are asked for |
 //! | [`units`] | the units that `sxf_unit_of` and `sxf_coordinate_of` answer |
 //! | [`dimensions`] | the numbers of a point that `sxf_coordinate_of` is asked for |
 //! | [`kinds`] | what `sxf_coordinate_of` and `sxf_value_of` say that a number is |
@@ -21,6 +22,7 @@
 #![deny(unsafe_op_in_unsafe_fn)]
 
 pub mod calls;
+pub mod codings;
 pub mod dimensions;
 pub mod fields;
 pub mod kinds;

@@ -1,4 +1,4 @@
-//! The sixteen refusals by document 01's numbers and names (01, The refusals), as the answers have them; [`OK`] is an answer that is none.
+//! The refusals by the documents' numbers and names (01, The refusals; 02, request 1), as the answers have them; [`OK`] is an answer that is none.
 
 /// No refusal.
 pub const OK: u64 = 0;
@@ -32,5 +32,7 @@ pub const LEFT_OVER: u64 = 13;
 pub const TABLE: u64 = 14;
 /// A lent output is too small.
 pub const ROOM: u64 = 15;
-/// The setting is not one of nine, or the record number is not below the count.
+/// The setting is not one of nine, the record number is not below the count, a point has no such dimension, or there is no such coding.
 pub const ASK: u64 = 16;
+/// A byte of a text has no character in its coding, or a 16-bit unit has no byte.
+pub const NO_CHARACTER: u64 = 17;

@@ -1,7 +1,7 @@
 //! Holds what this crate declares against `include/sxf.h`: each number, and each struct and call with the names, the order and the types of
 //! its fields and parameters.
 use sxf_sys::fields::{descriptor, passport, START};
-use sxf_sys::{dimensions, kinds, refusals, units, Carried, Rest, LIMIT};
+use sxf_sys::{codings, dimensions, kinds, refusals, units, Carried, Rest, LIMIT};
 
 const HEADER: &str = include_str!("../../../include/sxf.h");
 const CALLS: &str = include_str!("../src/calls.rs");
@@ -45,6 +45,7 @@ fn numbers_are_the_headers() {
         ("SXF_TABLE", refusals::TABLE),
         ("SXF_ROOM", refusals::ROOM),
         ("SXF_ASK", refusals::ASK),
+        ("SXF_NO_CHARACTER", refusals::NO_CHARACTER),
         ("SXF_DATE_AT", passport::DATE.place as u64),
         ("SXF_DESIGNATION_AT", passport::DESIGNATION.place as u64),
         ("SXF_TITLE_AT", passport::TITLE.place as u64),
@@ -69,6 +70,9 @@ fn numbers_are_the_headers() {
         ("SXF_DOUBLE", kinds::DOUBLE),
         ("SXF_NAN", kinds::NAN),
         ("SXF_DECIMAL", kinds::DECIMAL),
+        ("SXF_DOS", codings::DOS.into()),
+        ("SXF_WINDOWS", codings::WINDOWS.into()),
+        ("SXF_KOI8", codings::KOI8.into()),
     ];
     assert_eq!(numbers(&without_comments(HEADER)), ours.map(|(name, number)| (name.to_string(), number)));
 }
@@ -82,6 +86,7 @@ fn struct_name(c: &str) -> String {
 fn number_type(c: &str) -> &str {
     match c {
         "uint8_t" => "u8",
+        "uint16_t" => "u16",
         "uint32_t" => "u32",
         "uint64_t" => "u64",
         "int64_t" => "i64",
@@ -148,5 +153,5 @@ fn structs_and_calls_are_the_headers() {
         assert!(declared.contains(each), "not declared so: {each}");
     }
     assert_eq!((structs.len(), declared.matches("pubstruct").count()), (9, 9));
-    assert_eq!((calls.len(), declared.matches("pubfn").count()), (10, 10));
+    assert_eq!((calls.len(), declared.matches("pubfn").count()), (12, 12));
 }

@@ -36,3 +36,7 @@ theBytes t = t .bytes
 -- what goes to the writer's slice
 abbrev pub theSheet : List ℕ → List ℕ
 theSheet s = s
+
+-- what goes to the slice of a text that is turned: units, or bytes
+abbrev pub theTurned : List ℕ → List ℕ
+theTurned ys = ys

@@ -2,8 +2,8 @@
 use mathlib.Core.Path.{sym, ap}
 use Rattle.layout.specs.Answers.Structs.{writtenRow}
 use borrow.Author.Needs.{needs}
-use Rattle.sxf.proofs.tables.written_row.Statement.{statement}
-use Rattle.sxf.proofs.tables.written_row.Tie as tie
+use Rattle.sxf.proofs.written.written_row.Statement.{statement}
+use Rattle.sxf.proofs.written.written_row.Tie as tie
 
 returns : tie.Need-returns
 unfolding writtenRow

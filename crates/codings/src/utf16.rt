@@ -1,0 +1,72 @@
+// The two calls: text of a coding into UTF-16, and back. A lent slice is written to only once it is known that all of the text is turned and
+// fits.
+ghost use mathlib.Core.Path.{_≡_};
+ghost use lib.ListN.{length};
+ghost use Rattle.layout.specs.Answers.Calls.{lent};
+ghost use Rattle.layout.specs.Answers.Enums.{refusal, writtenOf};
+ghost use Rattle.layout.specs.Answers.Lent.{theTurned};
+ghost use Rattle.layout.specs.Codings.Turning.{toUtf16, fromUtf16};
+use crate::bytes;
+use crate::characters;
+use crate::slots::slots_of;
+use crate::tables::table_of;
+use layout::Refusal;
+use layout::Written;
+use layout::codings::KOI8;
+use layout::refusals::ASK;
+use layout::refusals::NO_CHARACTER;
+use layout::refusals::ROOM;
+
+fn refused(number: u32, place: usize) -> Written
+    ensures { λ r. ⌜ r ≡ Written.Refused (refusal number place 0) ⌝ }
+{
+    Written::Refused(Refusal {
+        number: number,
+        place: place,
+        year: 0,
+    })
+}
+
+// Turns a text into UTF-16, one unit a byte. The coding is 0 for DOS, 1 for Windows, 2 for KOI-8, as passport byte 97 has it.
+pub fn to_utf16(coding: u32, text: &[u8], units: &mut [u16]) -> Written
+    ensures answers { λ r. ⌜ r ≡ writtenOf (toUtf16 coding (now (text .entry)) (length (now (units .entry)))) ⌝ }
+    ensures turned { λ _. ⌜ now (units .exit) ≡ lent theTurned (toUtf16 coding (now (text .entry)) (length (now (units .entry))))
+        (now (units .entry)) ⌝ }
+{
+    if KOI8 < coding {
+        return refused(ASK, 0);
+    }
+    let first = characters::first_without(coding, text);
+    if first < text.len() {
+        return refused(NO_CHARACTER, first);
+    }
+    if units.len() < text.len() {
+        return refused(ROOM, 0);
+    }
+    let table = table_of(coding);
+    characters::put(&table, text, units);
+    Written::Length(text.len())
+}
+
+// Turns UTF-16 into a text, one byte a unit.
+pub fn from_utf16(coding: u32, units: &[u16], text: &mut [u8]) -> Written
+    ensures answers { λ r. ⌜ r ≡ writtenOf (fromUtf16 coding (now (units .entry)) (length (now (text .entry)))) ⌝ }
+    ensures turned { λ _. ⌜ now (text .exit) ≡ lent theTurned (fromUtf16 coding (now (units .entry)) (length (now (text .entry))))
+        (now (text .entry)) ⌝ }
+{
+    if KOI8 < coding {
+        return refused(ASK, 0);
+    }
+    let table = table_of(coding);
+    let slots = slots_of(coding);
+    let first = bytes::first_without(&slots, &table, units);
+    if first < units.len() {
+        return refused(NO_CHARACTER, first);
+    }
+    if text.len() < units.len() {
+        return refused(ROOM, 0);
+    }
+    // Each unit has a byte, so each guess is right.
+    bytes::put(&slots, units, text);
+    Written::Length(units.len())
+}
