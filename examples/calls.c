@@ -189,6 +189,34 @@ static void coordinates(void)
     print_coordinate("a short 65536", too_wide);
 }
 
+/* The word for gas in the three codings, and in UTF-16. The output is one longer: what is past the length is as it was. */
+static void texts(void)
+{
+    static const uint8_t gas[3][3] = { { 0x83, 0xA0, 0xA7 }, { 0xC3, 0xE0, 0xE7 }, { 0xE7, 0xC1, 0xDA } };
+    for (uint32_t coding = SXF_DOS; coding <= SXF_KOI8; coding++) {
+        uint16_t units[4] = { 9, 9, 9, 9 };
+        uint8_t text[4] = { 9, 9, 9, 9 };
+        sxf_written there = sxf_to_utf16(coding, gas[coding], 3, units, 4), back = sxf_from_utf16(coding, units, 3, text, 4);
+        SAME(there, 0, 0, 0, 3);
+        SAME(back, 0, 0, 0, 3);
+        uint64_t turned[4] = { units[0], units[1], units[2], units[3] }, again[4] = { text[0], text[1], text[2], text[3] };
+        SAME(turned, 0x0413, 0x0430, 0x0437, 9);
+        SAME(again, gas[coding][0], gas[coding][1], gas[coding][2], 9);
+    }
+    static const uint8_t none[] = { 'a', 0x98 };
+    static const uint16_t pair[] = { 'a', 0xD83D, 0xDE00 };
+    uint16_t units[2] = { 9, 9 };
+    uint8_t text[2] = { 9, 9 };
+    sxf_written no_coding = sxf_to_utf16(3, none, 2, units, 0), no_character = sxf_to_utf16(SXF_WINDOWS, none, 2, units, 1);
+    sxf_written no_byte = sxf_from_utf16(SXF_KOI8, pair, 3, text, 0), no_room = sxf_from_utf16(SXF_KOI8, pair, 1, text, 0);
+    SAME(no_coding, SXF_ASK, 0, 0, 0);
+    SAME(no_character, SXF_NO_CHARACTER, 1, 0, 0);
+    SAME(no_byte, SXF_NO_CHARACTER, 1, 0, 0);
+    SAME(no_room, SXF_ROOM, 0, 0, 0);
+    uint64_t left[4] = { units[0], units[1], text[0], text[1] };
+    SAME(left, 9, 9, 9, 9);
+}
+
 int main(void)
 {
     rest[0] = 3;
@@ -199,6 +227,7 @@ int main(void)
     heads();
     meanings();
     coordinates();
+    texts();
     printf("calls: %d answers, %d not as stated\n", answers, wrong);
     return wrong != 0;
 }

@@ -1,8 +1,19 @@
 //! Times checking, unfolding and writing beside a plain copy of the same bytes, in the same run. Each figure is the best of many rounds,
 //! and the rounds of the four go in turn, so that a slow spell of the machine meets all of them. All memory is touched before.
+//!
+//! `measure texts` times texts that are turned to UTF-16 and back instead, beside glibc's `iconv`, and `measure texts --each` holds each byte
+//! and each unit against it.
+#![deny(unsafe_code)]
+
+mod each;
+// The one module that may: it calls glibc.
+#[allow(unsafe_code)]
+mod iconv;
 mod sheets;
+mod texts;
 
 use std::hint::black_box;
+use std::process::ExitCode;
 use std::time::Instant;
 use sxf::table::unfold_into;
 use sxf::writer::write_into;
@@ -53,7 +64,7 @@ fn measure(kind: &sheets::Kind, sheet: &[u8]) -> Best {
     best
 }
 
-fn main() {
+fn time_sheets() {
     println!("| elements | points in a record | records | copy, ms | check | unfold | check, then unfold | write |");
     println!("|---|---|---|---|---|---|---|---|");
     for kind in sheets::KINDS {
@@ -73,4 +84,18 @@ fn main() {
             );
         }
     }
+}
+
+fn main() -> ExitCode {
+    let words: Vec<String> = std::env::args().skip(1).collect();
+    match words.iter().map(String::as_str).collect::<Vec<_>>()[..] {
+        [] => time_sheets(),
+        ["texts"] => texts::time(),
+        ["texts", "--each"] => return ExitCode::from(u8::from(!each::hold())),
+        _ => {
+            eprintln!("nothing, texts or texts --each");
+            return ExitCode::from(2);
+        }
+    }
+    ExitCode::SUCCESS
 }

@@ -3,8 +3,9 @@
 //! It is here to be held against the proved library: both are given the same
 //! sheets and tables, and every answer and every refusal must agree. It is
 //! also what the proved library's speed is measured against. For that it is
-//! written from document 01 alone (and the tables of document 000 that 01
-//! points to), and it shares no code and no table with the proved library.
+//! written from the documents alone: 01, with the tables of document 000 that
+//! 01 points to, and 02, with the published mappings of the three codings
+//! (`codings/`). It shares no code and no table with the proved library.
 //! Of single elements and items asked for out of their sheets the documents
 //! say only what they stand for: how such a question is refused, and in which
 //! order, is taken from `include/sxf.h`.
@@ -13,14 +14,15 @@
 //! has tests and no proof, and it follows the definition as one reader
 //! understood it.
 //!
-//! The words are document 01's: passport, descriptor, record, part, item,
-//! place, refusal. Each refusal is checked in document 01's order, and the
-//! first that applies is the answer; no input makes a call panic.
+//! The words are the documents': passport, descriptor, record, part, item,
+//! coding, place, refusal. Each refusal is checked in the documents' order, and
+//! the first that applies is the answer; no input makes a call panic.
 
 #![forbid(unsafe_code)]
 #![warn(missing_docs)]
 
 mod bytes;
+mod codings;
 mod coordinate;
 mod floating;
 mod head;
@@ -38,6 +40,7 @@ mod years;
 #[cfg(test)]
 mod tests;
 
+pub use codings::{from_utf16, to_utf16};
 pub use coordinate::{coordinate, Coordinate, Number};
 pub use head::Head;
 pub use meanings::{corners, unit, value, visibility, Unit, Value};

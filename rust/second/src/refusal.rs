@@ -1,11 +1,12 @@
 //! The refusals: their numbers, and the ways to give one.
 
-/// Why a sheet, a table or a question is refused.
+/// Why a sheet, a table, a text or a question is refused.
 #[derive(Clone, Copy, PartialEq, Eq, Debug)]
 pub struct Refusal {
-    /// Document 01's number of the refusal, 1 to 16.
+    /// The documents' number of the refusal, 1 to 17.
     pub number: u64,
-    /// A byte offset in the sheet or, of the writer's table, a number's index.
+    /// A byte offset in the sheet or, of the writer's table, a number's index;
+    /// of a text, the index of a byte or of a 16-bit unit.
     pub place: u64,
     /// The year of the feature for TOO NEW, else 0.
     pub year: u64,
@@ -42,8 +43,11 @@ impl Refusal {
     pub const TABLE: u64 = 14;
     /// A lent output too small.
     pub const ROOM: u64 = 15;
-    /// A setting that is none of the nine, or no such record.
+    /// A setting that is none of the nine, no such record, or no such coding.
     pub const ASK: u64 = 16;
+    /// A byte without a character in its coding, or a 16-bit unit without a
+    /// byte (document 02, request 1).
+    pub const NO_CHARACTER: u64 = 17;
 
     /// A refusal with no year.
     pub(crate) fn new(number: u64, place: u64) -> Refusal {

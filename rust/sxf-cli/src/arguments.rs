@@ -44,9 +44,10 @@ pub enum Command {
     },
     /// Print head and record table as JSON lines
     ///
-    /// The first line is the head, then comes a line for each record. Texts, values and carried bytes are strings of hexadecimal digits;
-    /// elements are numbers, and those that decimals do not carry safely are strings with their bits; all other numbers are integers. A tool
-    /// that keeps doubles does not spoil these lines, and `sxf write` takes them.
+    /// The first line is the head, then comes a line for each record. Texts are characters, and those with a byte that has no character are bytes;
+    /// bytes, as other values and what is carried, are strings of hexadecimal digits; elements are numbers, and those that decimals do not
+    /// carry safely are strings with their bits; all other numbers are integers. A tool that keeps doubles does not spoil these lines, and
+    /// `sxf write` takes them.
     Table {
         /// The sheet
         file: PathBuf,

@@ -1,4 +1,5 @@
 //! What goes wrong, and how the user learns of it: one line on standard error, and the exit status.
+use crate::quoted::visible;
 use std::fmt::Display;
 use std::io::{self, Write};
 use std::path::Path;
@@ -44,19 +45,11 @@ impl Failure {
 /// The longest line that is told: longer ones have a long string of the input in them.
 const LONGEST: usize = 2000;
 
-/// Prints one line on standard error. Where even that fails, the exit status alone says what happened.
+/// Prints one line on standard error. Where even that fails, the exit status alone says what happened. A name of a file or a string of a JSON
+/// line may have line ends and what else a terminal acts on; they are shown as escapes.
 fn told(line: &str, status: u8) -> ExitCode {
     let _ = writeln!(io::stderr(), "sxf: {}", line.chars().take(LONGEST).map(visible).collect::<String>());
     ExitCode::from(status)
-}
-
-/// A name of a file or a string of a JSON line may have line ends and what else a terminal acts on; they are shown as escapes.
-fn visible(character: char) -> String {
-    if character.is_control() {
-        character.escape_default().to_string()
-    } else {
-        character.to_string()
-    }
 }
 
 /// An error on standard output: errors of other files are given the file's name where they arise.

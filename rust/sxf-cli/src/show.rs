@@ -1,6 +1,7 @@
 //! `sxf show`: a sheet for people.
 use crate::failure::Failure;
 use crate::input;
+use crate::quoted::quoted;
 use std::io::Write;
 use std::path::Path;
 use sxf::{Corners, Head, Item, Number, Part, Point, Record, Setting, Sheet, Text, Value};
@@ -32,16 +33,17 @@ fn units(sheet: &Sheet<'_>, record: &Record<'_>) -> String {
 }
 
 fn head(sheet: &Sheet<'_>, head: &Head<'_>, out: &mut dyn Write) -> Result<(), Failure> {
-    writeln!(out, "date               {}", quoted(head.date))?;
-    writeln!(out, "designation        {}", quoted(head.designation))?;
-    writeln!(out, "designation (data) {}", quoted(head.designation2))?;
-    writeln!(out, "title              {}", quoted(head.title))?;
+    let text = |bytes| quoted(&Text { coding: Head::CODING, bytes });
+    writeln!(out, "date               {}", text(head.date))?;
+    writeln!(out, "designation        {}", text(head.designation))?;
+    writeln!(out, "designation (data) {}", text(head.designation2))?;
+    writeln!(out, "title              {}", text(head.title))?;
     writeln!(out, "scale              1:{}", head.scale)?;
     writeln!(out, "unit               {}", sheet.unit())?;
     writeln!(out, "unit of heights    {}", sheet.height_unit())?;
     writeln!(out, "resolution         {}", head.resolution())?;
     writeln!(out, "accuracy           {}", head.accuracy())?;
-    writeln!(out, "label coding       {}", head.label_coding())?;
+    writeln!(out, "label coding       {}", head.label_coding().map_or("unknown".to_string(), |coding| coding.to_string()))?;
     writeln!(out, "special sorting    {}", yes(head.special_sorting()))?;
     writeln!(out, "EPSG               {}", head.epsg())?;
     writeln!(out, "frame code         {}", head.frame_code())?;
@@ -100,8 +102,8 @@ fn reference(record: &Record<'_>) -> String {
 fn part(number: usize, part: &Part<'_>, out: &mut dyn Write) -> Result<(), Failure> {
     writeln!(out, "  part {number}, points {}", part.points().len())?;
     part.points().try_for_each(|each| point(&each, out))?;
-    if let Some(each) = part.text() {
-        writeln!(out, "    text {}", text(&each))?;
+    if let Some(text) = part.text() {
+        writeln!(out, "    text {}", quoted(&text))?;
     }
     Ok(())
 }
@@ -118,7 +120,7 @@ fn point(point: &Point, out: &mut dyn Write) -> Result<(), Failure> {
 fn item(number: usize, item: &Item<'_>, out: &mut dyn Write) -> Result<(), Failure> {
     write!(out, "  item {number}, code {}, type {}, scale byte {}: ", item.code, item.kind, item.scale)?;
     match item.value() {
-        Value::Text(each) => writeln!(out, "{}", text(&each))?,
+        Value::Text(text) => writeln!(out, "{}", quoted(&text))?,
         Value::Decimal { whole, power } => writeln!(out, "{}", decimal(whole, power))?,
         Value::Double(number) => writeln!(out, "{number}")?,
         Value::Unread => writeln!(out, "{:02x?}", item.bytes)?,
@@ -140,19 +142,6 @@ fn decimal(whole: i64, power: i64) -> String {
             format!("{sign}{before}.{after}")
         }
     }
-}
-
-fn text(text: &Text<'_>) -> String {
-    let told = match text.utf16() {
-        Some(units) => format!("{:?}", String::from_utf16_lossy(&units)),
-        None => quoted(text.bytes),
-    };
-    format!("{told} ({})", text.coding)
-}
-
-/// Bytes in quotation marks. Those that are not printable ASCII are shown as \xNN: which characters they stand for depends on the coding.
-fn quoted(bytes: &[u8]) -> String {
-    format!("\"{}\"", bytes.escape_ascii())
 }
 
 #[cfg(test)]

@@ -1,13 +1,15 @@
 //! `sxf table`: head and record table as JSON lines.
 use crate::failure::Failure;
+use crate::hex::Hex;
 use crate::input;
-use crate::json::{HeadLine, Hex, ItemLine, PartLine, RecordLine, EDITION, FORMAT};
+use crate::json::{HeadLine, ItemLine, PartLine, RecordLine, EDITION, FORMAT};
 use crate::points::Points;
+use crate::text;
 use serde::Serialize;
 use std::borrow::Cow;
 use std::io::{self, Write};
 use std::path::Path;
-use sxf::{Head, Item, Part, Record, Reference, Setting};
+use sxf::{Head, Item, Part, Record, Reference, Setting, Text};
 
 pub fn run(file: &Path, setting: Setting, out: &mut dyn Write) -> Result<(), Failure> {
     let bytes = input::bytes(file)?;
@@ -24,15 +26,24 @@ fn line(line: &impl Serialize, out: &mut dyn Write) -> Result<(), Failure> {
 }
 
 fn head_line<'a>(head: &Head<'a>, records: usize) -> HeadLine<'a> {
+    let fields = |bytes| text::fields(&Text { coding: Head::CODING, bytes });
+    let (date, date_bytes) = fields(head.date);
+    let (designation, designation_bytes) = fields(head.designation);
+    let (title, title_bytes) = fields(head.title);
+    let (designation2, designation2_bytes) = fields(head.designation2);
     HeadLine {
         sxf: Cow::Borrowed(EDITION),
         format: FORMAT,
-        date: Hex::of(head.date),
-        designation: Hex::of(head.designation),
+        date,
+        date_bytes,
+        designation,
+        designation_bytes,
         scale: head.scale,
-        title: Hex::of(head.title),
+        title,
+        title_bytes,
         rest: Hex::of(head.rest),
-        designation2: Hex::of(head.designation2),
+        designation2,
+        designation2_bytes,
         carried: Hex::of(head.carried),
         records: Some(records as u64),
     }
@@ -52,9 +63,15 @@ fn record_line<'a>(record: &Record<'a>) -> RecordLine<'a> {
 }
 
 fn part_line<'a>(reference: Reference, part: &Part<'a>) -> PartLine<'a> {
-    PartLine { points: Points::of(reference, part.elements()), text: Hex::of(part.text().map_or(&[], |text| text.bytes)) }
+    let (label, label_bytes) = part.text().filter(|text| !text.bytes.is_empty()).map_or((None, None), |text| text::fields(&text));
+    PartLine { points: Points::of(reference, part.elements()), label, label_bytes }
 }
 
 fn item_line<'a>(item: &Item<'a>) -> ItemLine<'a> {
-    ItemLine { code: item.code.into(), kind: item.kind.into(), scale: item.scale.into(), value: Hex::of(item.bytes) }
+    let text = text::of_item(item);
+    let (scale, value) = match text {
+        Some(_) => (None, None),
+        None => (Some(item.scale.into()), Some(Hex::of(item.bytes))),
+    };
+    ItemLine { code: item.code.into(), kind: item.kind.into(), text, scale, value }
 }

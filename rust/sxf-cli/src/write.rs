@@ -1,21 +1,23 @@
 //! `sxf write`: a sheet from JSON lines.
 use crate::failure::Failure;
+use crate::head::OwnHead;
 use crate::input;
-use crate::json::{HeadLine, ItemLine, PartLine, RecordLine, EDITION, FORMAT};
+use crate::json::{HeadLine, RecordLine, FORMAT};
 use crate::lines::Lines;
 use crate::object::Object;
 use crate::output::{self, Target};
+use crate::records::Records;
 use serde_json::Value;
 use std::io::{Read, Write};
 use std::path::Path;
-use sxf::fields::{descriptor, passport};
-use sxf::row;
+use sxf::fields::passport;
 use sxf::writer::check_head;
-use sxf::{Head, Reference, Refusal, Setting, Table};
+use sxf::{Coding, Head, Refusal, Setting};
 
 pub fn run(json: &Path, target: &Target<'_>, setting: Setting, out: &mut dyn Write) -> Result<(), Failure> {
-    let (head, records) = head_and_records(json)?;
-    let head = head_of(&head).map_err(|what| Failure::trouble(json, format!("the head: {what}")))?;
+    let mut lines = Lines::new(input::open(json)?);
+    let (head, records) = taken(&mut lines).map_err(|what| Failure::trouble(json, what))?;
+    let head = head.lend();
     let sheet =
         sxf::write(&head, records.table.lend(), setting).map_err(|refusal| told(json, &head, &records, setting, refusal))?;
     output::sheet(target, &sheet, out)
@@ -34,102 +36,53 @@ fn told(json: &Path, head: &Head<'_>, records: &Records, setting: Setting, refus
     Failure::Refused(format!("{}: {refusal}{place}", json.display()))
 }
 
-/// The table, and the first line of each of its records.
-#[derive(Default)]
-struct Records {
-    table: Table,
-    lines: Vec<usize>,
-}
-
-impl Records {
-    fn place(&self, index: usize) -> String {
-        let spot = self.table.lend().spot(index);
-        match spot.and_then(|spot| Some((spot, self.lines.get(spot.record)?))) {
-            Some((spot, line)) => format!(" (line {line}, {spot})"),
-            None => " (an index of the record table)".to_string(),
-        }
-    }
-
-    /// Adds a record's row and what it has in the pools. The numbers are the line's, also where they are too large for their fields: the
-    /// library refuses such a table, and says where.
-    fn push(&mut self, line: usize, record: &RecordLine<'_>) -> Result<(), String> {
-        let &RecordLine { code, in_group, group, reference, generalisation, word, .. } = record;
-        let (parts, items) = (record.parts.len() as u64, record.items.len() as u64);
-        let row = row::Record { code, in_group, group, reference, generalisation, word, parts, items };
-        self.lines.push(line);
-        self.table.numbers.extend(row.numbers());
-        for (number, part) in record.parts.iter().enumerate() {
-            self.push_part(reference, part).map_err(|what| format!("part {number}: {what}"))?;
-        }
-        for &ItemLine { code, kind, scale, ref value } in &record.items {
-            self.table.numbers.extend(row::Item { code, kind, scale, length: value.0.len() as u64 }.numbers());
-            self.table.bytes.extend_from_slice(&value.0);
-        }
-        Ok(())
-    }
-
-    fn push_part(&mut self, reference: u64, part: &PartLine<'_>) -> Result<(), String> {
-        let text = &part.text.0;
-        self.table.numbers.extend(row::Part { points: part.points.len() as u64, text_length: text.len() as u64 }.numbers());
-        self.table.bytes.extend_from_slice(text);
-        // A number too large for the reference bytes is refused by the library before it looks at any point.
-        if let Some(reference) = u32::try_from(reference).ok().filter(|reference| reference >> 24 == 0) {
-            self.table.elements.extend(part.points.bits(Reference(reference))?);
-        }
-        Ok(())
-    }
-}
-
-fn head_of<'a>(line: &'a HeadLine<'_>) -> Result<Head<'a>, String> {
-    if line.sxf != EDITION {
-        return Err(format!("sxf is {:?}, where this writes {EDITION:?}", line.sxf));
-    }
-    let wrong =
-        |name: &str, bytes: &[u8], length: usize| format!("{name} has {} bytes, where it has {length} in a sheet", bytes.len());
-    Ok(Head {
-        date: &line.date.0,
-        designation: &line.designation.0,
-        scale: line.scale,
-        title: &line.title.0,
-        rest: line.rest.0.as_ref().try_into().map_err(|_| wrong("rest", &line.rest.0, passport::REST.width))?,
-        designation2: &line.designation2.0,
-        carried: line.carried.0.as_ref().try_into().map_err(|_| wrong("flags", &line.carried.0, descriptor::CARRIED.width))?,
-    })
-}
-
-/// The head's line and the records' lines.
-fn head_and_records(json: &Path) -> Result<(HeadLine<'static>, Records), Failure> {
-    let mut lines = Lines::new(input::open(json)?);
-    taken(&mut lines).map_err(|what| Failure::trouble(json, what))
-}
-
-fn taken<R: Read>(lines: &mut Lines<R>) -> Result<(HeadLine<'static>, Records), String> {
+/// The head and the records.
+fn taken<R: Read>(lines: &mut Lines<R>) -> Result<(OwnHead, Records), String> {
     if !lines.next()? {
         return Err("no line, where the head should be".to_string());
     }
-    let head = head_line(lines)?;
-    let mut records = Records::default();
+    let line = head_line(lines)?;
+    let head = OwnHead::of(&line).map_err(|what| lines.told(&format!("the head: {what}")))?;
+    let mut records = Records::new(labels(&head.lend(), lines.first()));
     while lines.next()? {
         let record = record_line(lines)?;
         records.push(lines.first(), &record).map_err(|what| lines.told(&what))?;
     }
-    let found = records.lines.len();
-    match head.records {
-        Some(stated) if stated != found as u64 => Err(format!("records are {found}, where the head says {stated}")),
+    match line.records {
+        Some(stated) if stated != records.len() as u64 => {
+            Err(format!("records are {}, where the head says {stated}", records.len()))
+        }
         _ => Ok((head, records)),
     }
 }
 
-/// What is told of a line of the first format.
-const OLD_KIND: &str =
-    "a line of the old kind, whose elements are stored bits, which tools round; print it again from its sheet by this \
-                        `sxf table`, or, where only the lines are left, write the sheet by the sxf that printed them";
+/// The coding of labels, or what is told of a label where the head, on this line, has none.
+fn labels(head: &Head<'_>, line: usize) -> Result<Coding, String> {
+    let (place, byte) = (passport::LABELS.place, head.rest[passport::in_rest(passport::LABELS).place]);
+    let none =
+        || format!("the head (line {line}) has no coding for it: byte {place} of the sheet, in rest, is {byte}, and not 0 to 2");
+    head.label_coding().ok_or_else(none)
+}
+
+/// Why a line of the first format is not taken.
+const STORED_BITS: &str = "whose elements are stored bits, which tools round";
+
+/// Why a line of the second format is not taken.
+const DIGITS: &str = "whose parts have hexadecimal digits as text";
+
+/// What is told of a line of an older format.
+fn old_kind(why: &str) -> String {
+    format!(
+        "a line of the old kind, {why}; print it again from its sheet by this `sxf table`, or, where only the lines are left, \
+         write the sheet by the sxf that printed them"
+    )
+}
 
 /// The head, if it is of this format: in another one its fields may be others.
 fn head_line<R: Read>(lines: &Lines<R>) -> Result<HeadLine<'static>, String> {
     let head: Value = lines.parsed()?;
     match head.get("format") {
-        None if head.get("sxf").is_some() => Err(lines.told(OLD_KIND)),
+        None if head.get("sxf").is_some() => Err(lines.told(&old_kind(STORED_BITS))),
         Some(format) if format.as_f64() != Some(FORMAT as f64) => {
             Err(lines.told(&format!("format is {format}, where this reads {FORMAT}; write the sheet by the sxf that printed it")))
         }
@@ -137,10 +90,18 @@ fn head_line<R: Read>(lines: &Lines<R>) -> Result<HeadLine<'static>, String> {
     }
 }
 
-/// A record. One of the first format, which may stand under a head of this one, has the elements of its parts under a name of their own.
+/// A record. One of an older format may stand under a head of this one; its parts have a field that is none of this format.
 fn record_line<R: Read>(lines: &Lines<R>) -> Result<RecordLine<'static>, String> {
-    let is_old =
-        |record: Value| record["parts"].as_array().is_some_and(|parts| parts.iter().any(|part| part.get("elements").is_some()));
-    let told = |what| if lines.parsed().is_ok_and(is_old) { lines.told(OLD_KIND) } else { what };
+    let told = |what| {
+        let why = lines.parsed().ok().and_then(|record| older(&record));
+        why.map_or(what, |why| lines.told(&old_kind(why)))
+    };
     lines.parsed().map(|Object(record)| record).map_err(told)
+}
+
+/// Why a record of an older format is not taken; none where it is none.
+fn older(record: &Value) -> Option<&'static str> {
+    let parts = record["parts"].as_array()?;
+    let has = |field| parts.iter().any(|part| part.get(field).is_some());
+    [("elements", STORED_BITS), ("text", DIGITS)].into_iter().find_map(|(field, why)| has(field).then_some(why))
 }

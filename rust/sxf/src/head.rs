@@ -1,12 +1,22 @@
 //! What stands before the records: texts, scale and carried bytes, as the writer takes them, and the plane corners.
 use crate::coordinates::Number;
-use crate::item::Coding;
+use crate::Coding;
 use sxf_sys::fields::{descriptor, passport, Carried, Field, Rest};
 
 /// The head of a sheet: passport and descriptor without what is always the same or is worked out (identifiers, lengths, edition, sum, count).
 ///
-/// It is what a sheet that was read answers and what a sheet to be written takes. The texts are without zeros. The 304 bytes from +96 and the
-/// four at 444 are carried as stored.
+/// It is what a sheet that was read answers and what a sheet to be written takes. The texts are without zeros, in [`Head::CODING`]. The 304
+/// bytes from +96 and the four at 444 are carried as stored.
+///
+/// ```
+/// use sxf::{Head, Setting, Sheet, Writer};
+/// let title = Head::CODING.bytes("Северный берег")?;
+/// let sheet = Writer::new(Head { title: &title, ..Head::PLAIN })?.write(Setting::Y1999)?;
+/// let head = Sheet::read(&sheet, Setting::Y2017)?.head()?;
+/// assert_eq!(head.title, b"\xD1\xE5\xE2\xE5\xF0\xED\xFB\xE9 \xE1\xE5\xF0\xE5\xE3");
+/// assert_eq!(Head::CODING.string(head.title)?, "Северный берег");
+/// # Ok::<(), Box<dyn std::error::Error>>(())
+/// ```
 #[derive(Clone, Copy, Debug, PartialEq, Eq)]
 pub struct Head<'a> {
     /// The date at 16, of at most 11 bytes.
@@ -47,6 +57,9 @@ impl<'a> Head<'a> {
     pub const PLAIN: Head<'static> =
         Head { date: b"", designation: b"", scale: 0, title: b"", rest: &PLAIN_REST, designation2: b"", carried: &[3, 0, 0, 0] };
 
+    /// The coding of its four texts: source document 000 has those of passport and descriptor in ANSI.
+    pub const CODING: Coding = Coding::Windows;
+
     /// The bytes of an accepted sheet that a head is made of; none where the sheet is too short for one.
     pub(crate) fn of(sheet: &'a [u8], lengths: &sxf_sys::Head) -> Option<Head<'a>> {
         let text = |field: Field, length: u64| sheet.get(field.place..)?.get(..usize::try_from(length).ok()?);
@@ -66,8 +79,9 @@ impl<'a> Head<'a> {
         u8::from_le_bytes(field(self.rest, passport::FLAGS))
     }
 
-    /// The coding of labels, at +97.
-    pub fn label_coding(&self) -> Coding {
+    /// The coding of labels, at +97, but for records [that have their own](crate::Reference::label_coding); none for a byte over 2, which is
+    /// refused in a sheet.
+    pub fn label_coding(&self) -> Option<Coding> {
         Coding::of_labels(u8::from_le_bytes(field(self.rest, passport::LABELS)))
     }
 
@@ -173,7 +187,7 @@ mod tests {
     fn fields_are_read_at_their_places() {
         let rest: Rest = std::array::from_fn(|i| i as u8);
         let head = Head { rest: &rest, carried: &[3, 1, 5, 2], ..Head::PLAIN };
-        assert_eq!((head.flags(), head.label_coding(), head.accuracy()), (0, Coding::Windows, 2));
+        assert_eq!((head.flags(), head.label_coding(), head.accuracy()), (0, Some(Coding::Windows), 2));
         assert_eq!((head.epsg(), head.special_sorting()), (0x0706_0504, true));
         assert_eq!(head.resolution(), i32::from_le_bytes([216, 217, 218, 219]));
         assert_eq!(head.frame_code(), u32::from_le_bytes([252, 253, 254, 255]));

@@ -1,61 +1,9 @@
-//! Semantic items of a record, and texts with their codings.
+//! Semantic items of a record.
 use crate::coordinates::Number;
 use crate::table::Row;
-use std::fmt;
+use crate::{Coding, Text};
 use sxf_sys::row::{self, ITEM_WIDTH};
 use sxf_sys::{kinds, lent, refusals};
-
-/// How a text's bytes are coded.
-#[derive(Clone, Copy, Debug, PartialEq, Eq, Hash)]
-pub enum Coding {
-    /// One byte a character, DOS.
-    Dos,
-    /// One byte a character, Windows.
-    Windows,
-    /// One byte a character, KOI-8.
-    Koi8,
-    /// Two bytes a unit, UTF-16 with the low byte first.
-    Utf16,
-}
-
-impl Coding {
-    /// The coding of a sheet's labels: byte +97 of the passport. An accepted sheet has 0 to 2.
-    pub fn of_labels(byte: u8) -> Coding {
-        match byte {
-            0 => Coding::Dos,
-            1 => Coding::Windows,
-            _ => Coding::Koi8,
-        }
-    }
-}
-
-impl fmt::Display for Coding {
-    fn fmt(&self, f: &mut fmt::Formatter<'_>) -> fmt::Result {
-        f.write_str(match self {
-            Coding::Dos => "DOS",
-            Coding::Windows => "Windows",
-            Coding::Koi8 => "KOI-8",
-            Coding::Utf16 => "UTF-16",
-        })
-    }
-}
-
-/// A text as stored, with the coding that it is in.
-#[derive(Clone, Copy, Debug, PartialEq, Eq)]
-pub struct Text<'a> {
-    /// How its bytes are coded.
-    pub coding: Coding,
-    /// Its bytes, without closing zeros.
-    pub bytes: &'a [u8],
-}
-
-impl Text<'_> {
-    /// The units of a text in UTF-16; none for another coding. A last odd byte is left out.
-    pub fn utf16(&self) -> Option<Vec<u16>> {
-        let units = || self.bytes.as_chunks().0.iter().map(|&unit| u16::from_le_bytes(unit)).collect();
-        (self.coding == Coding::Utf16).then(units)
-    }
-}
 
 /// What the value of an item is.
 #[derive(Clone, Copy, Debug, PartialEq)]
@@ -98,17 +46,16 @@ impl<'a> Item<'a> {
     /// assert_eq!(item.value(), Value::Decimal { whole: 1273, power: -1 });
     /// ```
     pub fn value(&self) -> Value<'a> {
-        let value = match self.kind {
-            0 => self.text(Coding::Dos, 1),
-            126 => self.text(Coding::Windows, 1),
-            127 | 128 => self.text(Coding::Utf16, 2),
-            _ => self.number(),
+        let value = match Coding::of_item(self.kind) {
+            Some(coding) => self.text(coding),
+            None => self.number(),
         };
         value.unwrap_or(Value::Unread)
     }
 
-    fn text(&self, coding: Coding, closing: usize) -> Option<Value<'a>> {
-        let bytes = self.bytes.get(..self.bytes.len().checked_sub(closing)?)?;
+    /// The text, without its closing zeros: as many as a unit has bytes.
+    fn text(&self, coding: Coding) -> Option<Value<'a>> {
+        let bytes = self.bytes.get(..self.bytes.len().checked_sub(coding.width())?)?;
         Some(Value::Text(Text { coding, bytes }))
     }
 
@@ -177,9 +124,7 @@ mod tests {
     fn texts_lose_their_closing_zeros_and_keep_their_coding() {
         assert_eq!(value(0, 1, &[0x41, 0]), Value::Text(Text { coding: Coding::Dos, bytes: &[0x41] }));
         assert_eq!(value(126, 0, &[0]), Value::Text(Text { coding: Coding::Windows, bytes: &[] }));
-        let utf16 = Text { coding: Coding::Utf16, bytes: &[0x41, 4] };
-        assert_eq!(value(128, 0xFF, &[0x41, 4, 0, 0]), Value::Text(utf16));
-        assert_eq!(utf16.utf16(), Some(vec![0x441]));
+        assert_eq!(value(128, 0xFF, &[0x41, 4, 0, 0]), Value::Text(Text { coding: Coding::Utf16, bytes: &[0x41, 4] }));
     }
 
     #[test]

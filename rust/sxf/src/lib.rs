@@ -21,11 +21,12 @@
 //! | [`sheet`] | a sheet is checked, read and asked: [`check`], [`record_at`], [`Sheet`] |
 //! | [`head`] | what stands before the records: [`Head`] and [`Corners`] |
 //! | [`record`], [`part`], [`item`] | what a record holds |
+//! | [`text`] | texts with their codings, turned into strings and back: [`Text`], [`Coding`] |
 //! | [`reference`](mod@reference) | the three reference bytes of a record |
 //! | [`coordinates`] | units, numbers and coordinates, each unit a type of its own |
 //! | [`table`] | the record table as the library fills and takes it |
 //! | [`row`], [`fields`] | the names of the table's columns, and of the places in a sheet |
-//! | [`writer`] | a sheet is written: [`write()`], [`Writer`] |
+//! | [`writer`], [`new_item`] | a sheet is written: [`write()`], [`Writer`] |
 //! | [`years`] | which features a sheet has, and from which year |
 //! | [`refusal`], [`setting`] | refusals, and the nine settings |
 //!
@@ -33,9 +34,10 @@
 //!
 //! Proved are the library's answers: what is accepted and refused, with number, place and year; sum, count and sizes; the record table; a
 //! record asked for by number; the lengths of the head's texts; unit, corners, visibility; what an element's bits stand for, and in which unit;
-//! the numbers of items; the bytes written. This crate hands them on. Its own, which tests hold and no proof, are the walk over the table that
-//! was unfolded, a record's place in that walk, the bits of a number that is to be written, the fields that [`Head`] reads out of its rest and
-//! its carried bytes, the room for writing, and the names of features.
+//! the numbers of items; which character a byte of DOS, Windows or KOI-8 is; the bytes written. This crate hands them on. Its own, which tests
+//! hold and no proof, are the walk over the table that was unfolded, a record's place in that walk, the bits of a number that is to be written,
+//! the fields that [`Head`] reads out of its rest and its carried bytes, which coding a text is in, texts in UTF-16, the room for writing, and
+//! the names of features.
 //!
 //! Nothing here panics on what a sheet or a table holds. That an accepted sheet's table is well formed is the library's promise; what goes
 //! against it would end an iteration early, and for good.
@@ -45,6 +47,7 @@
 pub mod coordinates;
 pub mod head;
 pub mod item;
+pub mod new_item;
 pub mod part;
 pub mod record;
 pub mod reference;
@@ -52,13 +55,15 @@ pub mod refusal;
 pub mod setting;
 pub mod sheet;
 pub mod table;
+pub mod text;
 pub mod visibility;
 pub mod writer;
 pub mod years;
 
 pub use coordinates::{Coordinate, Degrees, DevicePoints, ElementKind, Height, HeightUnit, Metres, Number, Radians, Unit};
 pub use head::{Corners, Head};
-pub use item::{Coding, Item, Text, Value};
+pub use item::{Item, Value};
+pub use new_item::{NewItem, NoSuchItem};
 pub use part::{Part, Point};
 pub use record::{Record, RecordAt};
 pub use reference::{Localisation, Reference};
@@ -67,5 +72,6 @@ pub use setting::Setting;
 pub use sheet::{check, record_at, Sheet, Sizes};
 pub use sxf_sys::{fields, row, LIMIT};
 pub use table::{Row, Table, TableRef};
+pub use text::{Coding, NoCharacter, Stray, Text};
 pub use visibility::Visibility;
-pub use writer::{write, Misfit, NewItem, NewPart, NewRecord, Writer};
+pub use writer::{write, Misfit, NewPart, NewRecord, Writer};

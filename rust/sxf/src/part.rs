@@ -1,8 +1,7 @@
 //! Parts of a record: the object itself, then its subobjects.
 use crate::coordinates::{Coordinate, Elements, Height};
-use crate::item::{Coding, Text};
 use crate::table::Row;
-use crate::Reference;
+use crate::{Coding, Reference, Text};
 use sxf_sys::row::{self, PART_WIDTH};
 use sxf_sys::Rest;
 
@@ -40,7 +39,19 @@ impl<'a> Part<'a> {
         self.elements
     }
 
-    /// Its text, padding and all, without the closing zero; none without the text bit.
+    /// Its text, padding and all, without the closing zero; none without the text bit. The sheet's byte 97 says its coding, or the record's
+    /// Unicode bit.
+    ///
+    /// ```
+    /// use sxf::{Setting, Sheet};
+    /// # let bytes = include_bytes!("../../../samples/cyrillic-koi8.sxf");
+    /// let sheet = Sheet::read(bytes, Setting::Y2017)?;
+    /// let record = sheet.record(0)?;
+    /// let label = record.parts().next().and_then(|part| part.text()).expect("a label");
+    /// assert_eq!(label.coding, sxf::Coding::Koi8);
+    /// assert_eq!(label.string()?, "Газопровод");
+    /// # Ok::<(), Box<dyn std::error::Error>>(())
+    /// ```
     pub fn text(&self) -> Option<Text<'a>> {
         self.text
     }
@@ -110,7 +121,7 @@ pub struct Parts<'a> {
 impl<'a> Parts<'a> {
     pub(crate) fn of(row: &Row<'a>, rest: &'a Rest, labels: Coding) -> Parts<'a> {
         let reference = row.reference();
-        let coding = if reference.unicode() { Coding::Utf16 } else { labels };
+        let coding = reference.label_coding().unwrap_or(labels);
         Parts { reference, rest, coding, numbers: row.parts, elements: row.elements, texts: row.texts }
     }
 }

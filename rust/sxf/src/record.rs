@@ -1,9 +1,9 @@
 //! Records of a sheet.
-use crate::item::{Coding, Items};
+use crate::item::Items;
 use crate::part::Parts;
 use crate::refusal::{low16, low32, low8};
 use crate::table::{Row, Rows};
-use crate::{Reference, Visibility};
+use crate::{Coding, Reference, Visibility};
 use sxf_sys::fields::{header, START};
 use sxf_sys::{row, Rest};
 

@@ -1,5 +1,5 @@
 //! The three reference bytes of a record, bytes 20 to 22, as one number with byte 20 lowest.
-use crate::ElementKind;
+use crate::{Coding, ElementKind};
 use std::fmt;
 use sxf_sys::{dimensions, reference};
 
@@ -131,6 +131,11 @@ impl Reference {
     /// Bits 6-7 of byte 22.
     pub fn spline(self) -> u32 {
         (self.0 & reference::SPLINE as u32) >> reference::SPLINE.trailing_zeros()
+    }
+
+    /// The coding of the record's labels where it is the record's own, UTF-16 with the Unicode bit; else it is the sheet's.
+    pub fn label_coding(self) -> Option<Coding> {
+        self.unicode().then_some(Coding::Utf16)
     }
 
     /// How the elements of a dimension are stored, as the library answers it. A number over three bytes is none of a sheet's, and is refused

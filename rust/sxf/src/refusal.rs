@@ -13,10 +13,10 @@ use sxf_sys::refusals;
 /// ```
 #[derive(Clone, Copy, Debug, PartialEq, Eq, Hash)]
 pub struct Refusal {
-    /// The document's number, 1 to 16.
+    /// The documents' number, 1 to 17.
     pub number: u32,
-    /// A byte of the sheet, or for the writer's table an index of its numbers. For [`ROOM`](Refusal::ROOM) of unfolding it is 1, 2 or 3,
-    /// the output that is too small.
+    /// A byte of the sheet, or for the writer's table an index of its numbers, or for [`NO_CHARACTER`](Refusal::NO_CHARACTER) an index of the
+    /// text. For [`ROOM`](Refusal::ROOM) of unfolding it is 1, 2 or 3, the output that is too small.
     pub place: usize,
     /// The year of the feature for [`TOO_NEW`](Refusal::TOO_NEW), else 0.
     pub year: u32,
@@ -66,6 +66,7 @@ named! {
     TABLE "TABLE" "the record table is not well formed here"
     ROOM "ROOM" "a lent output is too small"
     ASK "ASK" "the year asked for is none of the nine settings, or there is no record of that number"
+    NO_CHARACTER "NO CHARACTER" "a byte of the text has no character in its coding, or a character has no byte in it"
 }
 
 impl Refusal {
@@ -132,8 +133,8 @@ mod tests {
     #[test]
     fn each_number_has_a_name() {
         let of = |number| Refusal { number, place: 0, year: 0 }.name();
-        assert!((Refusal::TOO_LONG..=Refusal::ASK).all(|n| !of(n).starts_with('(')));
-        assert!(of(0).starts_with('(') && of(17).starts_with('('));
+        assert!((Refusal::TOO_LONG..=Refusal::NO_CHARACTER).all(|n| !of(n).starts_with('(')));
+        assert!(of(0).starts_with('(') && of(18).starts_with('('));
     }
 
     #[test]

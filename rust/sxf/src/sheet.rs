@@ -1,11 +1,10 @@
 //! A sheet is checked, read, and asked.
 use crate::coordinates::{HeightUnit, Unit};
 use crate::head::{Corners, Head};
-use crate::item::Coding;
 use crate::record::{Common, Record, RecordAt, Records};
 use crate::refusal::low32;
 use crate::table::{Table, TableRef};
-use crate::{Refusal, Setting};
+use crate::{Coding, Refusal, Setting};
 use sxf_sys::fields::passport;
 use sxf_sys::{lent, Field, Rest};
 
@@ -71,6 +70,11 @@ fn rest_of(sheet: &[u8]) -> Result<&Rest, Refusal> {
     rest.ok_or(Refusal { number: Refusal::SHORT, place: 0, year: 0 })
 }
 
+/// The coding of an accepted sheet's labels, which is one of three.
+fn labels_of(byte: u8) -> Result<Coding, Refusal> {
+    Coding::of_labels(byte).ok_or(Refusal { number: Refusal::RESERVED, place: passport::LABELS.place, year: 0 })
+}
+
 /// An accepted sheet: its bytes, lent, and its record table.
 #[derive(Clone, Debug)]
 pub struct Sheet<'a> {
@@ -104,7 +108,7 @@ impl<'a> Sheet<'a> {
         let table = Table::unfold_sized(bytes, setting, &sizes)?;
         let rest = rest_of(bytes)?;
         let byte = |field: Field| rest[passport::in_rest(field).place];
-        let common = Common { rest, flags: byte(passport::FLAGS), labels: Coding::of_labels(byte(passport::LABELS)) };
+        let common = Common { rest, flags: byte(passport::FLAGS), labels: labels_of(byte(passport::LABELS))? };
         Ok(Sheet { bytes, setting, sizes, table, unit: unit_of(bytes, setting)?, common })
     }
 

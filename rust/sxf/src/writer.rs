@@ -1,15 +1,15 @@
 //! A sheet is written, from a head and a record table.
 use crate::coordinates::{Coordinate, ElementKind, Height, HeightUnit, Unit};
 use crate::head::Head;
-use crate::item::{Coding, Item};
+use crate::new_item::NewItem;
 use crate::part::{Part, Point};
 use crate::record::Record;
 use crate::table::{Row, Table, TableRef};
-use crate::{Reference, Refusal, Setting, Sheet, LIMIT};
+use crate::{Coding, NoCharacter, Reference, Refusal, Setting, Sheet, LIMIT};
 use std::error::Error;
 use std::fmt;
 use sxf_sys::lent::{self, Contents};
-use sxf_sys::row::{self, ITEM_WIDTH, PART_WIDTH};
+use sxf_sys::row::{self, PART_WIDTH};
 use sxf_sys::MARK;
 
 /// Writes a sheet. The room is worked out from the table, and is exact.
@@ -288,6 +288,19 @@ impl NewPart {
         self
     }
 
+    /// The same with these characters as its text, in a coding: the [record's own](Reference::label_coding), else the
+    /// [sheet's](Head::label_coding).
+    ///
+    /// ```
+    /// use sxf::{Coding, NewPart};
+    /// let part = NewPart::new(Vec::new()).string(Coding::Dos, "Газ")?;
+    /// assert_eq!(part.text, [0x83, 0xA0, 0xA7]);
+    /// # Ok::<(), sxf::NoCharacter>(())
+    /// ```
+    pub fn string(self, coding: Coding, text: &str) -> Result<NewPart, NoCharacter> {
+        Ok(self.text(coding.bytes(text)?))
+    }
+
     fn numbers(&self) -> [u64; PART_WIDTH] {
         row::Part { points: self.points.len() as u64, text_length: self.text.len() as u64 }.numbers()
     }
@@ -298,86 +311,6 @@ impl From<Part<'_>> for NewPart {
         NewPart { points: part.points().collect(), text: part.text().map_or(Vec::new(), |text| text.bytes.to_vec()) }
     }
 }
-
-/// A semantic item to be written.
-#[derive(Clone, Debug, PartialEq, Eq)]
-pub struct NewItem {
-    /// Its code.
-    pub code: u16,
-    /// Its type.
-    pub kind: u8,
-    /// Its scale byte.
-    pub scale: u8,
-    /// Its value with closing zeros, without the length field of type 128.
-    pub bytes: Vec<u8>,
-}
-
-impl NewItem {
-    /// A number, whole × 10^power, in the smallest of types 1, 2 and 4 that holds it. A power of −128 has no scale byte.
-    pub fn decimal(code: u16, whole: i32, power: i8) -> Result<NewItem, NoSuchItem> {
-        if power == i8::MIN {
-            return Err(NoSuchItem);
-        }
-        let bytes = whole.to_le_bytes();
-        let kind = if i8::try_from(whole).is_ok() {
-            1
-        } else if i16::try_from(whole).is_ok() {
-            2
-        } else {
-            4
-        };
-        let bytes = bytes.into_iter().take(usize::from(kind)).collect();
-        Ok(NewItem { code, kind, scale: power as u8, bytes })
-    }
-
-    /// A double, type 8, with scale byte 0.
-    pub fn double(code: u16, value: f64) -> NewItem {
-        NewItem { code, kind: 8, scale: 0, bytes: value.to_le_bytes().to_vec() }
-    }
-
-    /// A text of one byte a character, at most 255 of them: type 0 for DOS, 126 for Windows. No type has KOI-8.
-    pub fn text(code: u16, coding: Coding, text: &[u8]) -> Result<NewItem, NoSuchItem> {
-        let kind = match coding {
-            Coding::Dos => 0,
-            Coding::Windows => 126,
-            Coding::Koi8 | Coding::Utf16 => return Err(NoSuchItem),
-        };
-        let scale = u8::try_from(text.len()).map_err(|_| NoSuchItem)?;
-        Ok(NewItem { code, kind, scale, bytes: [text, &[0]].concat() })
-    }
-
-    /// A text in UTF-16: type 127 for at most 255 units, else type 128, which came in 2012.
-    pub fn utf16(code: u16, text: &str) -> NewItem {
-        let bytes: Vec<u8> = text.encode_utf16().chain([0]).flat_map(u16::to_le_bytes).collect();
-        match u8::try_from(text.encode_utf16().count()) {
-            Ok(scale) => NewItem { code, kind: 127, scale, bytes },
-            Err(_) => NewItem { code, kind: 128, scale: 0xFF, bytes },
-        }
-    }
-
-    fn numbers(&self) -> [u64; ITEM_WIDTH] {
-        let length = self.bytes.len() as u64;
-        row::Item { code: self.code.into(), kind: self.kind.into(), scale: self.scale.into(), length }.numbers()
-    }
-}
-
-impl From<Item<'_>> for NewItem {
-    fn from(Item { code, kind, scale, bytes }: Item<'_>) -> NewItem {
-        NewItem { code, kind, scale, bytes: bytes.to_vec() }
-    }
-}
-
-/// No type of item holds that value.
-#[derive(Clone, Copy, Debug, PartialEq, Eq)]
-pub struct NoSuchItem;
-
-impl fmt::Display for NoSuchItem {
-    fn fmt(&self, f: &mut fmt::Formatter<'_>) -> fmt::Result {
-        f.write_str("no type of semantic item holds that value")
-    }
-}
-
-impl Error for NoSuchItem {}
 
 /// A point that does not fit its record or its sheet.
 #[derive(Clone, Copy, Debug, PartialEq, Eq)]
@@ -458,15 +391,5 @@ mod tests {
         let part = NewPart::new(vec![point(Unit::DevicePoints, 1), point(Unit::DevicePoints, -1)]);
         assert!(writer.push(&NewRecord::new(0, Reference(0)).part(part)).is_err());
         assert_eq!(writer.table(), TableRef::default());
-    }
-
-    #[test]
-    fn items_are_of_the_smallest_type() {
-        let decimal = |whole| NewItem::decimal(1, whole, -1).expect("a scale").bytes;
-        assert_eq!((decimal(-128), decimal(128), decimal(-40_000)), (vec![0x80], vec![0x80, 0], vec![0xC0, 0x63, 0xFF, 0xFF]));
-        assert_eq!(NewItem::decimal(1, 0, -128), Err(NoSuchItem));
-        assert_eq!(NewItem::text(1, Coding::Dos, &[1; 256]), Err(NoSuchItem));
-        assert_eq!(NewItem::utf16(1, "ab").bytes, [0x61, 0, 0x62, 0, 0, 0]);
-        assert_eq!(NewItem::utf16(1, &"a".repeat(256)).kind, 128);
     }
 }

@@ -3,8 +3,8 @@ use std::fs;
 use std::path::PathBuf;
 use sxf::fields::{passport, Field};
 use sxf::{
-    check, record_at, row, write, Coding, Head, HeightUnit, Localisation, NewItem, NewPart, NewRecord, Number, Point, Reference,
-    Refusal, Setting, Sheet, Table, TableRef, Text, Unit, Value, Writer,
+    check, record_at, row, write, Coding, Head, HeightUnit, Localisation, NewItem, NewPart, NewRecord, NoCharacter, Number, Point,
+    Record, Reference, Refusal, Setting, Sheet, Stray, Table, TableRef, Text, Unit, Value, Writer,
 };
 
 fn sample(name: &str) -> Vec<u8> {
@@ -12,7 +12,22 @@ fn sample(name: &str) -> Vec<u8> {
     fs::read(&path).unwrap_or_else(|error| panic!("{}: {error}", path.display()))
 }
 
-const ACCEPTED: [&str; 10] = ["E", "P", "Q", "head", "labels", "heights", "floating", "items", "long", "dated"];
+const ACCEPTED: [&str; 14] = [
+    "E",
+    "P",
+    "Q",
+    "head",
+    "labels",
+    "heights",
+    "floating",
+    "items",
+    "long",
+    "dated",
+    "cyrillic-dos",
+    "cyrillic-windows",
+    "cyrillic-koi8",
+    "no-character",
+];
 
 /// With the number and place that samples/sheets.txt states.
 const REFUSED: [(&str, u32, usize); 8] = [
@@ -136,7 +151,7 @@ fn the_head_is_told() {
     let head = sheet.head().expect("a head");
     assert_eq!((head.date, head.scale, head.designation2), (&b"20170101"[..], 10_000, &b"N-37-004"[..]));
     assert_eq!((head.designation, head.title), (&b"N-37-004-A-b-3, the river sheet"[..], &b"North bank, upper terrace, 1:10"[..]));
-    assert_eq!((sheet.unit(), head.label_coding()), (Unit::Degrees, Coding::Windows));
+    assert_eq!((sheet.unit(), head.label_coding()), (Unit::Degrees, Some(Coding::Windows)));
     assert_eq!(sheet.corners().expect("corners").nan_at, None);
 }
 
@@ -196,6 +211,113 @@ fn values_of_items_are_told() {
         text(Coding::Utf16, b"A\0"),
     ];
     assert_eq!(values, expected);
+}
+
+/// The three sheets of Cyrillic: the byte at 97, the coding that it stands for, and the label of the second part.
+const CYRILLIC: [(&str, u8, Coding, &str); 3] = [
+    ("cyrillic-dos", 0, Coding::Dos, "Колодец № 5"),
+    ("cyrillic-windows", 1, Coding::Windows, "Колодец № 5\0"),
+    ("cyrillic-koi8", 2, Coding::Koi8, "Ёлкино"),
+];
+
+const TITLE: &str = "Северный берег, Ёлкино № 5";
+const DESIGNATION: &str = "N-37-004-А-б";
+/// The label of the record that has the Unicode bit.
+const UNICODE_LABEL: &str = "Ёлкино, колодец № 5\0";
+const ITEMS: [(u16, u8, Coding, &str); 4] = [
+    (8, 0, Coding::Dos, "МОСКВА, Ёлкино"),
+    (9, 126, Coding::Windows, "Колодец № 5"),
+    (10, 127, Coding::Utf16, "Река Москва"),
+    (11, 128, Coding::Utf16, "Ёлкино, колодец № 5 — у реки"),
+];
+
+/// The labels of a record, and the texts of its items, each with its coding.
+fn labels<'a>(record: &Record<'a>) -> Vec<Text<'a>> {
+    record.parts().filter_map(|part| part.text()).collect()
+}
+
+fn item_texts<'a>(record: &Record<'a>) -> Vec<Text<'a>> {
+    let text = |value| if let Value::Text(text) = value { Some(text) } else { None };
+    record.items().filter_map(|item| text(item.value())).collect()
+}
+
+/// The samples' bytes are made by Python's codecs.
+#[test]
+fn texts_are_turned_into_strings() {
+    let told = |text: Text<'_>| (text.coding, text.string().expect("characters"));
+    for (name, _, coding, second) in CYRILLIC {
+        let bytes = sample(name);
+        let sheet = read(&bytes);
+        let head = sheet.head().expect(name);
+        assert_eq!(head.label_coding(), Some(coding));
+        let texts = [head.date, head.designation, head.title, head.designation2].map(|text| Head::CODING.string(text).expect(name));
+        assert_eq!(texts, ["16.11.2026", DESIGNATION, TITLE, DESIGNATION]);
+        let records: Vec<_> = sheet.records().collect();
+        let found: Vec<_> = records.iter().flat_map(labels).map(told).collect();
+        let stated = [(coding, "Газопровод"), (coding, second), (Coding::Utf16, UNICODE_LABEL)];
+        assert_eq!(found, stated.map(|(coding, text)| (coding, text.to_string())), "{name}");
+        let found: Vec<_> = records.iter().flat_map(item_texts).map(told).collect();
+        assert_eq!(found, ITEMS.map(|(.., coding, text)| (coding, text.to_string())), "{name}");
+    }
+}
+
+/// The same sheets from strings: the codings' bytes are those of Python's codecs.
+#[test]
+fn strings_are_turned_into_texts() {
+    let at = |n| Unit::DevicePoints.coordinate(Number::Whole(n));
+    let point = |x, y| Point { x: at(x), y: at(y), height: None };
+    for (name, byte, coding, second) in CYRILLIC {
+        let text = |text| Head::CODING.bytes(text).expect(name);
+        let (date, designation, title) = (text("16.11.2026"), text(DESIGNATION), text(TITLE));
+        let mut rest = *Head::PLAIN.rest;
+        rest[passport::in_rest(passport::LABELS).place] = byte;
+        let head = Head {
+            date: &date,
+            designation: &designation,
+            scale: 10_000,
+            title: &title,
+            rest: &rest,
+            designation2: &designation,
+            carried: &[3, byte, 0, 0],
+        };
+        let coding_of = |reference: Reference| reference.label_coding().or(head.label_coding()).expect("a coding");
+        let plain = Reference::new(Localisation::Label).with(Reference::TEXT_IN_METRIC);
+        let unicode = plain.with(Reference::UNICODE);
+        assert_eq!((coding_of(plain), coding_of(unicode)), (coding, Coding::Utf16));
+        let part = |points, reference, text| NewPart::new(points).string(coding_of(reference), text).expect(text);
+        let first = NewRecord { in_group: 1, group: 1, ..NewRecord::new(91_000_000, plain) }
+            .part(part(vec![point(100, 200)], plain, "Газопровод"))
+            .part(part(vec![point(100, 190), point(140, 190)], plain, second));
+        let with_item = |record: NewRecord, (code, kind, _, text): (u16, u8, Coding, &str)| {
+            record.item(NewItem::string(code, kind, text).expect(text))
+        };
+        let mut writer = Writer::new(head).expect(name);
+        writer.push(&ITEMS.into_iter().fold(first, with_item)).expect(name);
+        let second = NewRecord::new(91_000_001, unicode).part(part(vec![point(100, 180)], unicode, UNICODE_LABEL));
+        writer.push(&second).expect(name);
+        assert!(writer.write(Setting::Y2012).as_ref() == Ok(&sample(name)), "{name}");
+    }
+}
+
+#[test]
+fn what_has_no_character_is_named_with_its_index() {
+    let bytes = sample("no-character");
+    let sheet = read(&bytes);
+    let head = sheet.head().expect("a head");
+    let none = |coding, index, what| Err(NoCharacter { coding, index, what });
+    let byte = Stray::Byte(0x98);
+    assert_eq!(Head::CODING.string(head.title), none(Coding::Windows, 9, byte));
+    let records: Vec<_> = sheet.records().collect();
+    let turned = |texts: &[Text<'_>]| texts.iter().map(|text| text.string()).collect::<Vec<_>>();
+    assert_eq!(turned(&labels(&records[0])), [none(Coding::Windows, 3, byte), Ok("Газопровод".to_string())]);
+    assert_eq!(turned(&labels(&records[1])), [none(Coding::Utf16, 0, Stray::Unit(0xD800)), none(Coding::Utf16, 3, byte)]);
+    let items = [
+        Ok("ГазШ".to_string()),
+        none(Coding::Windows, 4, byte),
+        none(Coding::Utf16, 3, Stray::Unit(0xD800)),
+        none(Coding::Utf16, 0, Stray::Unit(0xDC00)),
+    ];
+    assert_eq!(turned(&item_texts(&records[0])), items);
 }
 
 /// A record with everything: three dimensions, two parts with texts, two items; and a record after it.
@@ -331,10 +453,17 @@ fn put_sum_right(sheet: &mut [u8]) {
 }
 
 fn walk(sheet: &Sheet<'_>) -> usize {
-    let of_record = |record: sxf::Record<'_>| {
+    let of_record = |record: Record<'_>| {
         let points: usize = record.parts().map(|part| part.points().count()).sum();
         let unread = record.items().filter(|item| item.value() == Value::Unread).count();
         assert_eq!(unread, 0, "an accepted sheet has no such item");
+        for text in [labels(&record), item_texts(&record)].concat() {
+            let again = text.string().map(|string| text.coding.bytes(&string));
+            assert!(
+                again.is_err() || again == Ok(Ok(text.bytes.to_vec())),
+                "{text:?} is turned there and back, or it is not turned"
+            );
+        }
         points + record.items().count()
     };
     sheet.records().map(of_record).sum()

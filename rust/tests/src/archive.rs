@@ -3,7 +3,9 @@
 
 use sxf_sys::lent::{self, Contents};
 
-pub use sxf_sys::lent::{check, coordinate_of, corners_of, head_of, record_at, unfold, unit_of, value_of, visibility_of};
+pub use sxf_sys::lent::{
+    check, coordinate_of, corners_of, from_utf16, head_of, record_at, to_utf16, unfold, unit_of, value_of, visibility_of,
+};
 pub use sxf_sys::{Checked, Coordinate, Corners, Head, Record, Unit, Value, Visibility, Written};
 
 pub fn write(year: u32, head: &second::Head, table: &second::Table, out: &mut [u8]) -> Written {

@@ -3,6 +3,7 @@
 
 mod meanings;
 mod reading;
+mod texts;
 mod writing;
 
 use crate::features;
@@ -31,6 +32,9 @@ pub struct Judge {
     elements: Memory<u64>,
     bytes: Memory<u8>,
     out: Memory<u8>,
+    text: Memory<u8>,
+    units: Memory<u16>,
+    units_out: Memory<u16>,
 }
 
 /// How many disagreements of one case are told.
@@ -59,6 +63,9 @@ impl Judge {
         self.elements.reset(salt);
         self.bytes.reset(salt);
         self.out.reset(salt);
+        self.text.reset(salt);
+        self.units.reset(salt);
+        self.units_out.reset(salt);
         self.met = Tally::default();
         self.comparisons = 0;
         self.accepted = false;

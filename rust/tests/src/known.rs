@@ -1,18 +1,20 @@
-//! Document 01's own sheets, with the answers it gives for them. Both the
-//! archive and `second` must give these.
+//! Document 01's own sheets, with the answers it gives for them, and elements,
+//! items and texts whose answers are worked out by hand. Both the archive and
+//! `second` must give these.
 
 use crate::archive;
 use crate::judge::{Care, Judge};
 use crate::numbers::Numbers;
 use second::Refusal;
+use sxf_sys::codings::{DOS, KOI8, WINDOWS};
 use sxf_sys::dimensions::{EAST, HEIGHT, NORTH};
 use sxf_sys::fields::{descriptor, header, passport, Field, START};
 use sxf_sys::reference::{ELEMENT_SIZE, FLOATING, THREE_DIMENSIONS};
-use sxf_sys::refusals::{ASK, OK, SEMANTIC, SHORT, SUM, TABLE, TEXT, TOO_NEW};
+use sxf_sys::refusals::{ASK, NO_CHARACTER, OK, ROOM, SEMANTIC, SHORT, SUM, TABLE, TEXT, TOO_NEW};
 use sxf_sys::{kinds, row, units, years};
 
 /// How many there are.
-pub const CASES: u64 = 15;
+pub const CASES: u64 = 16;
 
 /// Where the metric of the first record starts.
 pub const METRIC: usize = START + header::SIZE;
@@ -110,7 +112,8 @@ pub fn run(judge: &mut Judge, case: u64) {
         11 => record_of_q(judge),
         12 => visibilities(judge),
         13 => coordinates(judge),
-        _ => values(judge),
+        14 => values(judge),
+        _ => texts(judge),
     }
 }
 
@@ -222,6 +225,37 @@ fn values(judge: &mut Judge) {
     ] {
         judge.same(|| format!("type {kind}, bits {bits:#x}"), archive::value_of(kind, scale, bits), due);
         judge.value(kind, scale, bits);
+    }
+    judge.accepted = true;
+}
+
+/// Texts whose characters are worked out by hand: «ГаЁ», a zero, a control, and
+/// byte 0x98, which has a character in two of the codings.
+fn texts(judge: &mut Judge) {
+    let none = archive::Written::default();
+    let refused = |number, place| archive::Written { number, place, ..none };
+    let mut numbers = Numbers::of_case(0, 0, 0);
+    for (coding, text, units) in [
+        (DOS, [0x83, 0xA0, 0xF0, 0, 0x1B, 0x98], [0x413, 0x430, 0x401, 0, 0x1B, 0x428]),
+        (KOI8, [0xE7, 0xC1, 0xB3, 0, 0x1B, 0x98], [0x413, 0x430, 0x401, 0, 0x1B, 0x2264]),
+        (WINDOWS, [0xC3, 0xE0, 0xA8, 0, 0x1B, 0x99], [0x413, 0x430, 0x401, 0, 0x1B, 0x2122]),
+    ] {
+        let (mut there, mut back) = ([9; 6], [9; 6]);
+        let answers = (archive::to_utf16(coding, &text, &mut there), archive::from_utf16(coding, &units, &mut back));
+        let whole = archive::Written { length: text.len() as u64, ..none };
+        judge.same(|| format!("coding {coding}"), answers, (whole, whole));
+        judge.same(|| format!("coding {coding} there"), there, units);
+        judge.same(|| format!("coding {coding} back"), back, text);
+        judge.text(coding, &text, &mut numbers);
+        judge.units(coding, &units, &mut numbers);
+    }
+    for (coding, text, due) in [
+        (WINDOWS, [0x41, 0x98], refused(NO_CHARACTER, 1)),
+        (DOS, [0x41, 0x98], refused(ROOM, 0)),
+        (3, [0x41, 0x98], refused(ASK, 0)),
+    ] {
+        judge.same(|| format!("0x98 in coding {coding}"), archive::to_utf16(coding, &text, &mut [9]), due);
+        judge.text(coding, &text, &mut numbers);
     }
     judge.accepted = true;
 }

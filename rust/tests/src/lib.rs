@@ -1,8 +1,8 @@
 //! Holds the archive of the proved library against `second`, the independent
-//! reader and writer: both are given the same sheets and tables, right ones
-//! and damaged ones, and must answer alike in every number and byte.
+//! reader and writer: both are given the same sheets, tables and texts, right
+//! ones and damaged ones, and must answer alike in every number and byte.
 //!
-//! The words are document 01's. A case is told by its phase, its number and
+//! The words are the documents'. A case is told by its phase, its number and
 //! the seed of the run, and is the same in every run that has it.
 
 pub mod archive;
@@ -24,3 +24,4 @@ pub mod sheets;
 pub mod table_damage;
 pub mod tables;
 pub mod tally;
+pub mod texts;

@@ -193,6 +193,7 @@ fn print_reasons(tally: &Tally) {
         );
     }
     println!("items: kinds 0 to 5 {:?}", tally.items);
+    println!("codings 0 to 2: there {:?}, back {:?}", tally.there, tally.back);
 }
 
 /// Runs the phases that are asked for, and prints a line for each.

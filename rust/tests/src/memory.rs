@@ -19,6 +19,12 @@ impl Cell for u64 {
     }
 }
 
+impl Cell for u16 {
+    fn untouched(index: usize, salt: u64) -> u16 {
+        (u64::untouched(index, salt) >> 48) as u16
+    }
+}
+
 impl Cell for u8 {
     fn untouched(index: usize, salt: u64) -> u8 {
         (u64::untouched(index, salt) >> 56) as u8

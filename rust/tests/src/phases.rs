@@ -13,6 +13,7 @@ use crate::sheet_damage;
 use crate::sheets::{setting, small_sheet, Made};
 use crate::table_damage;
 use crate::tables::{small, table};
+use crate::texts;
 use second::{Head, Table};
 
 /// One kind of cases.
@@ -50,14 +51,21 @@ pub enum Phase {
     Coordinates,
     /// Elements of points that are drawn.
     DrawnCoordinates,
+    /// Every byte of each coding and every unit of UTF-16, for one value of a
+    /// byte.
+    EachUnit,
+    /// Texts and units that are drawn.
+    Texts,
 }
 
-pub const PHASES: [Phase; 16] = [
+pub const PHASES: [Phase; 18] = [
     Phase::Known,
     Phase::Visibility,
     Phase::Values,
     Phase::Coordinates,
     Phase::DrawnCoordinates,
+    Phase::EachUnit,
+    Phase::Texts,
     Phase::Empty,
     Phase::Limits,
     Phase::EachBit,
@@ -90,6 +98,8 @@ impl Phase {
             Phase::Large => "large",
             Phase::Coordinates => "coordinates",
             Phase::DrawnCoordinates => "drawn-coords",
+            Phase::EachUnit => "each-unit",
+            Phase::Texts => "texts",
         }
     }
 
@@ -98,7 +108,7 @@ impl Phase {
     pub fn cases(self, times: u64) -> u64 {
         match self {
             Phase::Known => known::CASES,
-            Phase::Visibility | Phase::Coordinates | Phase::EachByte => 256,
+            Phase::Visibility | Phase::Coordinates | Phase::EachByte | Phase::EachUnit => 256,
             Phase::Values => VALUES,
             Phase::Limits => limits::CASES,
             Phase::Empty => 1024,
@@ -111,6 +121,7 @@ impl Phase {
             Phase::DamagedTables => 140_000 * times,
             Phase::Large => 2000 * times,
             Phase::DrawnCoordinates => 20_000 * times,
+            Phase::Texts => 25_000 * times,
         }
     }
 
@@ -135,6 +146,8 @@ impl Phase {
             Phase::Large => large::run(judge, numbers),
             Phase::Coordinates => coordinates::byte(judge, case as u8, numbers),
             Phase::DrawnCoordinates => coordinates::drawn(judge, numbers),
+            Phase::EachUnit => texts::byte(judge, case as u8, numbers),
+            Phase::Texts => texts::drawn(judge, numbers),
         }
     }
 

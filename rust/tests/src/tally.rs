@@ -4,7 +4,7 @@ use crate::features;
 use std::collections::BTreeMap;
 use sxf_sys::fields::{descriptor, header, passport};
 use sxf_sys::refusals::*;
-use sxf_sys::{kinds, row, units, years};
+use sxf_sys::{codings, kinds, row, units, years};
 
 /// The archive's calls.
 #[derive(Clone, Copy, PartialEq, Eq, PartialOrd, Ord, Debug)]
@@ -19,9 +19,11 @@ pub enum Call {
     ValueOf,
     VisibilityOf,
     CoordinateOf,
+    ToUtf16,
+    FromUtf16,
 }
 
-pub const CALLS: [Call; 10] = [
+pub const CALLS: [Call; 12] = [
     Call::Check,
     Call::Unfold,
     Call::RecordAt,
@@ -32,6 +34,8 @@ pub const CALLS: [Call; 10] = [
     Call::ValueOf,
     Call::VisibilityOf,
     Call::CoordinateOf,
+    Call::ToUtf16,
+    Call::FromUtf16,
 ];
 
 impl Call {
@@ -44,6 +48,7 @@ impl Call {
             Call::ValueOf => &[SEMANTIC],
             Call::VisibilityOf => &[],
             Call::CoordinateOf => &[TABLE, ASK],
+            Call::ToUtf16 | Call::FromUtf16 => &[ROOM, ASK, NO_CHARACTER],
         }
     }
 }
@@ -59,7 +64,7 @@ const OF_UNFOLDING: [u64; 15] = [
 ];
 
 /// The refusals' numbers, and 0 for an answer that is none.
-pub const NUMBERS: usize = ASK as usize + 1;
+pub const NUMBERS: usize = NO_CHARACTER as usize + 1;
 
 /// Where a refusal stands.
 #[derive(Clone, Copy, PartialEq, Eq, PartialOrd, Ord, Debug)]
@@ -88,19 +93,27 @@ pub enum Where {
     Item(usize),
     /// At the table's length.
     TableEnd,
+    /// At the first byte or unit of a text.
+    FirstCharacter,
+    /// At one between the first and the last.
+    InnerCharacter,
+    /// At the last, which is not the first.
+    LastCharacter,
     /// At a lent slice.
     Lent(u64),
     /// At the question itself.
     Asked,
 }
 
-/// Whether a sheet was read or a table written, or the meaning of an element
-/// or of an item was asked for.
+/// Whether a sheet was read or a table written, the meaning of an element or of
+/// an item was asked for, or a text was turned to UTF-16 or back.
 #[derive(Clone, Copy, PartialEq, Eq, PartialOrd, Ord, Debug)]
 pub enum Way {
     Read,
     Write,
     Mean,
+    There,
+    Back,
 }
 
 /// Why something was refused, as far as number, place and year tell.
@@ -130,10 +143,17 @@ pub struct Tally {
     pub element_units: [[u64; 6]; 3],
     /// The kinds of numbers that items were.
     pub items: [u64; KINDS],
+    /// The codings of texts that were turned to UTF-16.
+    pub there: [u64; CODINGS],
+    /// The codings of texts that were turned back.
+    pub back: [u64; CODINGS],
 }
 
 /// The kinds of numbers.
 pub const KINDS: usize = kinds::DECIMAL as usize + 1;
+
+/// The codings.
+pub const CODINGS: usize = codings::KOI8 as usize + 1;
 
 /// What the elements of the plane can be, and in which units they can be.
 const IN_THE_PLANE: ([u64; 4], [u64; 5]) = (
@@ -147,6 +167,9 @@ const IN_HEIGHT: ([u64; 3], [u64; 2]) = ([kinds::SINGLE, kinds::DOUBLE, kinds::N
 /// What items can be.
 const IN_ITEMS: [u64; 4] = [kinds::NO_NUMBER, kinds::DOUBLE, kinds::NAN, kinds::DECIMAL];
 
+/// What texts can be in.
+const IN_TEXTS: [u64; CODINGS] = [codings::DOS as u64, codings::WINDOWS as u64, codings::KOI8 as u64];
+
 impl Default for Tally {
     fn default() -> Tally {
         Tally {
@@ -158,6 +181,8 @@ impl Default for Tally {
             elements: Default::default(),
             element_units: Default::default(),
             items: Default::default(),
+            there: Default::default(),
+            back: Default::default(),
         }
     }
 }
@@ -180,6 +205,8 @@ impl Tally {
         add(self.elements.as_flattened_mut(), other.elements.as_flattened());
         add(self.element_units.as_flattened_mut(), other.element_units.as_flattened());
         add(&mut self.items, &other.items);
+        add(&mut self.there, &other.there);
+        add(&mut self.back, &other.back);
         for (reason, more) in &other.reasons {
             *self.reasons.entry(*reason).or_default() += more;
         }
@@ -218,6 +245,15 @@ impl Tally {
                 missing.push(format!("NaN {corner} was answered in {met} cases"));
             }
         }
+        missing.extend(self.missing_meanings(least));
+        missing.extend(seldom(&self.there, &IN_TEXTS, least, "a text there from coding"));
+        missing.extend(seldom(&self.back, &IN_TEXTS, least, "a text back to coding"));
+        missing
+    }
+
+    /// Whatever elements and items were less often than `least` times.
+    fn missing_meanings(&self, least: u64) -> Vec<String> {
+        let mut missing = Vec::new();
         let ((planar, plane_units), (high, height_units)) = (IN_THE_PLANE, IN_HEIGHT);
         for (dimension, (kinds, units)) in
             [(&planar[..], &plane_units[..]), (&planar, &plane_units), (&high, &height_units)].iter().enumerate()
@@ -251,18 +287,21 @@ fn reasons(way: Way, stated: &[Stated]) -> Vec<Reason> {
     stated.iter().flat_map(each).collect()
 }
 
-/// The reasons that document 01 names, told apart by their places.
+/// The reasons that the documents name, told apart by their places.
 pub fn due() -> Vec<Reason> {
     let mut due = reasons(Way::Read, &OF_HEADS);
     due.extend(reasons(Way::Write, &OF_HEADS));
     due.extend(reasons(Way::Read, &OF_READING));
     due.extend(reasons(Way::Write, &OF_WRITING));
     due.extend(reasons(Way::Mean, &OF_MEANINGS));
+    due.extend(reasons(Way::There, &OF_TEXTS));
+    due.extend(reasons(Way::Back, &OF_TEXTS));
     due
 }
 
 use Where::{
-    After, Asked, FirstPoints, Head, Header, Item, LaterPoints, Lent, Metric, MetricEnd, Row, Semantics, TableEnd, TextLength,
+    After, Asked, FirstCharacter, FirstPoints, Head, Header, InnerCharacter, Item, LastCharacter, LaterPoints, Lent, Metric,
+    MetricEnd, Row, Semantics, TableEnd, TextLength,
 };
 
 /// The texts, and what is carried: reader and writer refuse the same.
@@ -326,6 +365,10 @@ const OF_READING: [Stated; 22] = [
 /// What is refused of an element, and of an item.
 const OF_MEANINGS: [Stated; 3] =
     [(TABLE, 0, &[Row(row::REFERENCE), Asked]), (ASK, 0, &[Asked]), (SEMANTIC, 0, &[Item(row::ITEM_TYPE), Item(row::ITEM_SCALE)])];
+
+/// What is refused of a text, there and back.
+const OF_TEXTS: [Stated; 3] =
+    [(NO_CHARACTER, 0, &[FirstCharacter, InnerCharacter, LastCharacter]), (ROOM, 0, &[Asked]), (ASK, 0, &[Asked])];
 
 /// The rest that the writer refuses.
 const OF_WRITING: [Stated; 20] = [

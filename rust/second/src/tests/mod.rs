@@ -1,5 +1,6 @@
-//! Document 01's sheets and cases, and what follows from its rules.
+//! The documents' sheets and cases, and what follows from their rules.
 
+mod codings;
 mod coordinates;
 mod limits;
 mod meanings;

@@ -1,5 +1,5 @@
 //! The JSON lines: what is printed, and what is taken.
-use crate::run::{on, out, sample, status, told, write, Folder, ACCEPTED};
+use crate::run::{changed_in, is_told, on, out, sample, status, told, write, Folder, ACCEPTED};
 use std::fs;
 use sxf::{row, Head, Reference, Setting, TableRef};
 
@@ -150,7 +150,7 @@ fn integers_are_taken_by_what_they_are() {
     let folder = Folder::new("integers");
     let file = folder.file("q.sxf");
     for (from, to) in [
-        ("\"format\":2", "\"format\":2.0"),
+        ("\"format\":3", "\"format\":3.0"),
         ("\"scale\":0", "\"scale\":0e5"),
         ("\"records\":1", "\"records\":10e-1"),
         ("\"reference\":514", "\"reference\":5.14000000000000000e+02"),
@@ -161,29 +161,36 @@ fn integers_are_taken_by_what_they_are() {
     }
 }
 
-/// The table of Q as it was printed before its head had a `format`; of the rest there is one byte.
+/// The table of Q as it was printed before its head had a `format`, and a record of the second format, which has a label's bytes as `text`; of the
+/// rest there is one byte.
 const OLD_HEAD: &str = "{\"sxf\":\"4.0\",\"date\":\"\",\"designation\":\"41\",\"scale\":0,\"title\":\"\",\"rest\":\"03\",\
                         \"designation2\":\"41\",\"flags\":\"03000000\",\"records\":1}\n";
 const OLD_RECORD: &str = "{\"code\":0,\"number_in_group\":0,\"group_number\":0,\"reference\":514,\"generalisation\":255,\"word\":0,\
                           \"parts\":[{\"points\":1,\"elements\":[3,4]}],\"items\":[{\"code\":1,\"type\":2,\"scale\":255,\"value\":\"f904\"}]}\n";
+const LABEL_RECORD: &str =
+    "{\"code\":0,\"number_in_group\":0,\"group_number\":0,\"reference\":524291,\"generalisation\":255,\"word\":0,\
+                            \"parts\":[{\"points\":[[3,4]]},{\"points\":[[3,4]],\"text\":\"414243\"}],\"items\":[]}\n";
 
-/// The head, and a record under a head of today, whose stored bits would be taken for numbers.
+/// The head, and a record under a head of today, whose stored bits would be taken for numbers, or its digits for characters.
 #[test]
 fn a_line_of_the_old_kind_is_refused() {
     let folder = Folder::new("old");
     let table = out(&on("table", &sample("Q"), &[]));
     let (head, record) = table.split_once('\n').expect("two lines");
     let sorted = OLD_RECORD.replace("\"points\":1,\"elements\":[3,4]", "\"elements\":[3,4],\"points\":1");
-    for (lines, number) in [
-        (format!("{OLD_HEAD}{OLD_RECORD}"), 1),
-        (format!("{OLD_HEAD}{record}"), 1),
-        (format!("{head}\n{OLD_RECORD}"), 2),
-        (format!("{head}\n{sorted}"), 2),
+    let (bits, digits) = ("whose elements are stored bits, which tools round", "whose parts have hexadecimal digits as text");
+    for (lines, number, why) in [
+        (format!("{OLD_HEAD}{OLD_RECORD}"), 1, bits),
+        (format!("{OLD_HEAD}{record}"), 1, bits),
+        (format!("{head}\n{OLD_RECORD}"), 2, bits),
+        (format!("{head}\n{sorted}"), 2, bits),
+        (format!("{head}\n{LABEL_RECORD}"), 2, digits),
+        (format!("{head}\n\n{}", LABEL_RECORD.replace("\"text\"", "\"label\":\"ABC\",\"text\"")), 3, digits),
     ] {
         let output = write(lines.as_bytes(), &folder.file("q.sxf"), &[]);
         assert_eq!(status(&output), 2);
         let line = told(&output);
-        assert!(line.contains(&format!("-: line {number}: a line of the old kind, ")), "{line}");
+        assert!(line.contains(&format!("-: line {number}: a line of the old kind, {why}; ")), "{line}");
         assert!(line.contains("print it again from its sheet by this `sxf table`"), "{line}");
     }
     assert_eq!(folder.names(), [""; 0]);
@@ -247,20 +254,13 @@ fn a_value_may_go_over_several_lines() {
 
 /// Lines of the table of Q, with something put in place of something else.
 fn changed(from: &str, to: &str) -> Vec<u8> {
-    let table = out(&on("table", &sample("Q"), &[]));
-    assert!(table.contains(from), "{from}");
-    table.replace(from, to).into_bytes()
+    changed_in("Q", from, to)
 }
 
 /// Each change of Q's table ends with this exit status, is told with these words, and leaves no file.
 fn each_is_told(folder: &str, ends: i32, cases: &[(&str, &str, &str)]) {
     let folder = Folder::new(folder);
-    for (from, to, words) in cases {
-        let output = write(&changed(from, to), &folder.file("q.sxf"), &[]);
-        assert_eq!(status(&output), ends, "{words}");
-        assert!(told(&output).contains(words), "{words}: {}", told(&output));
-    }
-    assert_eq!(folder.names(), [""; 0]);
+    cases.iter().for_each(|(from, to, words)| is_told(&folder, ends, &changed(from, to), words));
 }
 
 #[test]
@@ -282,9 +282,11 @@ fn a_refused_table_is_told_with_its_line() {
         ("\"reference\":514", "\"reference\":2", "(line 2, record 0, items)"),
         ("\"f904\"", "\"f9\"", "(line 2, record 0, item 0, value length)"),
         ("[[3,4]]", &many, "(line 2, record 0, part 0, points)"),
-        ("[[3,4]]", "[[3,4]],\"text\":\"41\"", "(line 2, record 0, part 0, text length)"),
+        ("[[3,4]]", "[[3,4]],\"label\":\"A\"", "(line 2, record 0, part 0, text length)"),
+        ("[[3,4]]", "[[3,4]],\"label_bytes\":\"41\"", "(line 2, record 0, part 0, text length)"),
         ("\"type\":2", "\"type\":3", "refusal 12 SEMANTIC at 11 (0xb)"),
-        ("\"designation\":\"41\"", "\"designation\":\"4100\"", "refusal 6 TEXT at 28 (0x1c)"),
+        ("\"designation\":\"A\"", "\"designation\":\"A\\u0000\"", "refusal 6 TEXT at 28 (0x1c)"),
+        ("\"designation\":\"A\"", "\"designation_bytes\":\"4100\"", "refusal 6 TEXT at 28 (0x1c)"),
     ];
     each_is_told("refused", 1, &cases);
 }
@@ -301,17 +303,18 @@ fn bad_json_is_told_with_its_line() {
         ("\"f904\"", "\"f90\"", "hexadecimal digits, two a byte"),
         ("[3,4]", "[3,4,5]", "line 2: part 0: points of 3 numbers, where the record's have 2"),
         ("[3,4]", "[3,65536]", "line 2: part 0: point 0: 65536 is none of the integers of 2 bytes, 0 to 65535"),
-        ("\"format\":2", "\"format\":3", "line 1: format is 3, where this reads 2; write the sheet by the sxf that printed it"),
-        ("\"format\":2,", "\"format\":3,\"more\":0,", "line 1: format is 3, where this reads 2"),
-        ("\"format\":2", "\"format\":\"2\"", "line 1: format is \"2\", where this reads 2"),
+        ("\"format\":3", "\"format\":4", "line 1: format is 4, where this reads 3; write the sheet by the sxf that printed it"),
+        ("\"format\":3", "\"format\":2", "line 1: format is 2, where this reads 3; write the sheet by the sxf that printed it"),
+        ("\"format\":3,", "\"format\":4,\"more\":0,", "line 1: format is 4, where this reads 3"),
+        ("\"format\":3", "\"format\":\"3\"", "line 1: format is \"3\", where this reads 3"),
         (
             "\"scale\":0",
             "\"scale\":4294967296",
-            "line 1: column 71: 4294967296, where an integer of at most 32 bits, from 0 on, should be",
+            "line 1: column 70: 4294967296, where an integer of at most 32 bits, from 0 on, should be",
         ),
         ("\"code\":0", "\"\\n\\u001b[2J\":0", "unknown field `\\n\\u{1b}[2J`"),
-        ("\"flags\":\"03000000\"", "\"flags\":\"0300\"", "the head: flags has 2 bytes, where it has 4 in a sheet"),
-        ("\"sxf\":\"4.0\"", "\"sxf\":\"5.0\"", "the head: sxf is \"5.0\""),
+        ("\"flags\":\"03000000\"", "\"flags\":\"0300\"", "line 1: the head: flags has 2 bytes, where it has 4 in a sheet"),
+        ("\"sxf\":\"4.0\"", "\"sxf\":\"5.0\"", "line 1: the head: sxf is \"5.0\""),
         ("\"records\":1", "\"records\":2", "records are 1, where the head says 2"),
         ("}]}\n", "", "line 2: column "),
         ("{\"points\":[[3,4]]}", "[[[3,4]]]", "line 2: column 102: invalid type: sequence, expected a part, an object"),

@@ -1,8 +1,10 @@
 //! The command over the sample sheets and over drawn ones: what it prints, what it takes, and the files it leaves.
 mod answers;
 mod drawn;
+mod every;
 mod files;
 mod lines;
 mod pages;
 mod run;
+mod texts;
 mod tools;

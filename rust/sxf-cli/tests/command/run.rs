@@ -4,7 +4,22 @@ use std::io::Write;
 use std::path::{Path, PathBuf};
 use std::process::{Command, Output, Stdio};
 
-pub const ACCEPTED: [&str; 10] = ["E", "P", "Q", "head", "labels", "heights", "floating", "items", "long", "dated"];
+pub const ACCEPTED: [&str; 14] = [
+    "E",
+    "P",
+    "Q",
+    "head",
+    "labels",
+    "heights",
+    "floating",
+    "items",
+    "long",
+    "dated",
+    "cyrillic-dos",
+    "cyrillic-windows",
+    "cyrillic-koi8",
+    "no-character",
+];
 pub const REFUSED: [&str; 8] =
     ["sum-wrong", "too-short", "not-sxf", "dirty-tail", "closing", "graphics", "left-over", "mark-small"];
 
@@ -70,6 +85,21 @@ pub fn told(output: &Output) -> String {
     assert_eq!(told.lines().count(), 1, "one line: {told:?}");
     assert!(told.starts_with("sxf: ") && told.ends_with('\n'), "{told:?}");
     told
+}
+
+/// Lines of a sample's table, with something put in place of something else.
+pub fn changed_in(name: &str, from: &str, to: &str) -> Vec<u8> {
+    let table = out(&on("table", &sample(name), &[]));
+    assert!(table.contains(from), "{from}");
+    table.replace(from, to).into_bytes()
+}
+
+/// Lines that are not written: it ends with this exit status, is told with these words, and leaves no file in the folder.
+pub fn is_told(folder: &Folder, ends: i32, lines: &[u8], words: &str) {
+    let output = write(lines, &folder.file("none.sxf"), &[]);
+    assert_eq!(status(&output), ends, "{words}: {output:?}");
+    assert!(told(&output).contains(words), "{words}: {}", told(&output));
+    assert_eq!(folder.names(), [""; 0], "{words}");
 }
 
 /// Writes a sheet from these lines.

@@ -1,7 +1,7 @@
 //! `sxf table F | TOOL | sxf write` gives F's bytes for every tool that keeps doubles. `jq` and `python3` are Debian's, which .ci/packages installs,
 //! whatever else of these names there is.
-use crate::drawn;
-use crate::run::{sample, Folder, ACCEPTED};
+use crate::run::{on, out, sample, Folder, ACCEPTED};
+use crate::{drawn, every};
 use std::collections::BTreeSet;
 use std::fs;
 use std::num::FpCategory;
@@ -9,8 +9,8 @@ use std::path::Path;
 use std::process::Command;
 use sxf::{ElementKind, Number, Setting, Sheet};
 
-/// Lines as they are, every number as the tool computes with it, over several lines, with sorted keys, every integer as a double (`3.0`), and every
-/// number with 18 digits.
+/// Lines as they are, every number as the tool computes with it, over several lines, with sorted keys, every character beyond ASCII as an escape
+/// (`\u0413`), every integer as a double (`3.0`), and every number with 18 digits.
 const TOOLS: [&str; 8] = [
     "jq -c .",
     "jq -c 'walk(if type == \"number\" then . + 0 else . end)'",
@@ -21,7 +21,7 @@ const TOOLS: [&str; 8] = [
     "python3 -c 'import json, sys; [print(json.dumps(json.loads(line, parse_int=float))) for line in sys.stdin]'",
     r#"python3 -c 'import re, sys
 printed = lambda m: m[0] if m[0][0] == "\"" else "%.17e" % float(m[0])
-[print(re.sub(r"\"[^\"]*\"|[-+.0-9eE]+", printed, line), end="") for line in sys.stdin]'"#,
+[print(re.sub(r"\"(?:[^\"\\]|\\.)*\"|[-+.0-9eE]+", printed, line), end="") for line in sys.stdin]'"#,
 ];
 
 /// Where Debian's tools are.
@@ -48,17 +48,33 @@ fn samples_come_back_through_tools() {
     }
 }
 
+/// All of them go through the tools as characters.
+#[test]
+fn every_character_comes_back_through_tools() {
+    let folder = Folder::new("every-through-tools");
+    for labels in 0..=2 {
+        fs::write(folder.file("every.sxf"), every::sheet(labels)).expect("a file");
+        let table = out(&on("table", &folder.file("every.sxf"), &[]));
+        assert!(!table.contains("_bytes\"") && !table.contains("\"value\""), "labels in coding {labels}");
+        comes_back(&folder, &folder.file("every.sxf"));
+    }
+}
+
 #[test]
 fn drawn_sheets_come_back_through_tools() {
     let folder = Folder::new("drawn-through-tools");
-    let mut met = BTreeSet::new();
+    let (mut met, mut tables) = (BTreeSet::new(), String::new());
     for number in 0..20 {
         let bytes = drawn::sheet(number);
         met.extend(classes(&bytes));
         fs::write(folder.file("drawn.sxf"), &bytes).expect("a file");
+        tables += &out(&on("table", &folder.file("drawn.sxf"), &[]));
         comes_back(&folder, &folder.file("drawn.sxf"));
     }
     assert_eq!(met, every_class(), "what was tried is every kind of element");
+    for field in ["\"label\":", "\"label_bytes\":", "\"text\":", "\"value\":"] {
+        assert!(tables.contains(field), "what was tried has texts as characters and as bytes, {field}");
+    }
 }
 
 /// Of each element of a sheet its shape of points, its kind, and of a floating number what it is.

@@ -1,0 +1,57 @@
+//! The head of a sheet that is written, out of its JSON line.
+use crate::hex::Hex;
+use crate::json::{HeadLine, EDITION};
+use crate::text::Given;
+use sxf::fields::{Carried, Rest};
+use sxf::Head;
+
+/// The head with texts of its own.
+pub struct OwnHead {
+    date: Vec<u8>,
+    designation: Vec<u8>,
+    scale: u32,
+    title: Vec<u8>,
+    rest: Rest,
+    designation2: Vec<u8>,
+    carried: Carried,
+}
+
+impl OwnHead {
+    pub fn of(line: &HeadLine<'_>) -> Result<OwnHead, String> {
+        if line.sxf != EDITION {
+            return Err(format!("sxf is {:?}, where this writes {EDITION:?}", line.sxf));
+        }
+        Ok(OwnHead {
+            date: text("date", &line.date, &line.date_bytes)?,
+            designation: text("designation", &line.designation, &line.designation_bytes)?,
+            scale: line.scale,
+            title: text("title", &line.title, &line.title_bytes)?,
+            rest: fixed("rest", &line.rest)?,
+            designation2: text("designation2", &line.designation2, &line.designation2_bytes)?,
+            carried: fixed("flags", &line.carried)?,
+        })
+    }
+
+    pub fn lend(&self) -> Head<'_> {
+        Head {
+            date: &self.date,
+            designation: &self.designation,
+            scale: self.scale,
+            title: &self.title,
+            rest: &self.rest,
+            designation2: &self.designation2,
+            carried: &self.carried,
+        }
+    }
+}
+
+/// The bytes of a text, which a head must have in one of its two fields.
+fn text(name: &str, characters: &Option<String>, bytes: &Option<Hex<'_>>) -> Result<Vec<u8>, String> {
+    let given = Given::of(name, characters, bytes)?.ok_or_else(|| format!("neither {name} nor {name}_bytes is there"))?;
+    given.bytes(Head::CODING).map(|bytes| bytes.into_owned()).map_err(|none| format!("{name}: {none}"))
+}
+
+fn fixed<const N: usize>(name: &str, bytes: &Hex<'_>) -> Result<[u8; N], String> {
+    let wrong = |_| format!("{name} has {} bytes, where it has {N} in a sheet", bytes.0.len());
+    bytes.0.as_ref().try_into().map_err(wrong)
+}
