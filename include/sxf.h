@@ -1,10 +1,12 @@
 /*
- * sxf.h: reads and writes sheets of binary SXF, edition 4.0. Link with libsxf.a (`rt staticlib sxf` makes it, for x86-64 Linux).
+ * sxf.h: reads and writes sheets of binary SXF, edition 4.0, for C99 and C++. Link with libsxf.a (`rt staticlib sxf` makes it, for x86-64
+ * Linux).
  *
  * Answers. Each call takes every value of its arguments and answers one struct by value. number is 0 (SXF_OK) on success. Else it is
- * the number of the refusal, with its place and year, and every other field is 0. The place is a byte of the sheet, from 0, or for
- * sxf_write's table an index of the table, or an index of the text for SXF_NO_CHARACTER; the year is 0 except for SXF_TOO_NEW. (sxf_visibility has no refusal; what the place of a
- * refusal counts from where no sheet is lent is said beside the call.)
+ * the number of the refusal, with its place and year, and every other field is 0. The place is a byte of the sheet, from 0, for
+ * sxf_write's table an index of the table, and for SXF_NO_CHARACTER an index of the bytes or units that were to be turned; the year is 0
+ * except for SXF_TOO_NEW. (sxf_visibility has no refusal; what the place of a refusal counts from where no sheet is lent is said beside
+ * the call.)
  *
  * Years. A sheet is read or written for a year, one of 1999, 2004, 2006, 2008, 2012, 2014, 2015, 2016 and 2017: what came later is
  * refused as SXF_TOO_NEW. Any other year is refused first of all, as SXF_ASK at place 0.
@@ -14,8 +16,9 @@
  * neither: give the address of any object. A pointer to uint64_t or uint16_t is aligned as one.
  *
  * What is written. Only table, elements and bytes of sxf_unfold, out of sxf_write, units of sxf_to_utf16 and text of sxf_from_utf16 are
- * written to. None of these may overlap another argument of the same call. A refusal leaves them as they were; success writes only the lengths that the answer states, from the start
- * of each. Nothing is kept after a call, nothing is allocated, and calls in several threads do not disturb one another.
+ * written to. None of these may overlap another argument of the same call. A refusal leaves them as they were; success writes only the
+ * lengths that the answer states, from the start of each. Nothing is kept after a call, nothing is allocated, and calls in several threads
+ * do not disturb one another.
  */
 #ifndef SXF_H
 #define SXF_H
@@ -48,7 +51,7 @@ enum {
     SXF_ROOM = 15,        /* a lent output is too small; sxf_unfold: place 1 table, 2 elements, 3 bytes; else place 0 */
     SXF_ASK = 16,         /* the year is none of the nine, the record's number is not below the count, a point has no such dimension, or
                              there is no such coding; place 0 */
-    SXF_NO_CHARACTER = 17 /* a byte has no character, or a 16-bit unit has no byte, in the coding; the place is its index in the text */
+    SXF_NO_CHARACTER = 17 /* a byte has no character, or a 16-bit unit has no byte, in the coding; the place is its index */
 };
 
 /* Places in a sheet. Each text starts at its place and has the length that sxf_head_of answers. The carried bytes are the rest of the

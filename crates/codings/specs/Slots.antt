@@ -11,7 +11,7 @@ use Rattle.laws.proofs.Base.Every.{every}
 abbrev pub readIn : List ℕ → ℕ → ℕ
 readIn table k = getD table k 0
 
--- 227 / 16 was found by trying: no two characters of one coding have the same slot of 1024
+-- no two characters of one coding have the same of the 1024 slots
 abbrev pub slotOf : ℕ → ℕ
 slotOf character = character * 227 / 16 % 1024
 
@@ -22,9 +22,9 @@ guessIn slots character = readIn slots (slotOf character)
 unfoldable pub misses : List ℕ → List ℕ → ℕ → Bool
 misses slots table character = not (eqb (readIn table (guessIn slots character)) character)
 
--- Slots fit a table: each of the 1024 is a byte, a byte that has a character is its guess, and what is no character is not found.
-unfoldable pub right : List ℕ → List ℕ → Bool
-right table slots =
+-- The slots fit the table: each of the 1024 is a byte, a byte that has a character is its guess, and what is no character is not found.
+unfoldable pub fit : List ℕ → List ℕ → Bool
+fit table slots =
     eqb (length slots) 1024
     && every (λ k slot. ltb slot 256) 0 slots
     && every (λ byte character. eqb character noCharacter || eqb (guessIn slots character) byte) 0 table

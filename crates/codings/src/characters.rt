@@ -8,6 +8,7 @@ ghost use lib.Seq.{sets};
 ghost use Rattle.layout.specs.Codings.Tables.{noCharacter};
 ghost use Rattle.layout.specs.Codings.Turning.{characterOf, firstOf, lacks as lacksIn};
 ghost use Rattle.codings.specs.Slots.{readIn};
+use crate::tables::BYTES;
 use layout::codings::WINDOWS;
 
 // The only byte of the three codings without a character: it is one of page 1251.
@@ -51,8 +52,8 @@ pub fn first_without(coding: u32, text: &[u8]) -> usize
     i
 }
 
-// Also on the way back, where the guessed byte's character is looked up.
-pub fn character_in(table: &[u16; 256], byte: u8) -> u16
+// The character that the table has for a byte. The way back looks its guess up by it.
+pub fn character_in(table: &[u16; BYTES], byte: u8) -> u16
     ensures { λ r. ⌜ r ≡ readIn (now (table .entry)) byte ⌝ }
 {
     let i = byte as usize;
@@ -60,7 +61,7 @@ pub fn character_in(table: &[u16; 256], byte: u8) -> u16
 }
 
 // Puts the character of each byte.
-pub fn put(table: &[u16; 256], text: &[u8], units: &mut [u16])
+pub fn put(table: &[u16; BYTES], text: &[u8], units: &mut [u16])
     requires { ⌜ length (now text) ≤ length (now units) ⌝ }
     ensures { λ _. ⌜ now (units .exit) ≡ sets (now (units .entry)) 0 (map (readIn (now (table .entry))) (now (text .entry))) ⌝ }
 {

@@ -1,11 +1,18 @@
 // For the way back, the bytes of the three codings by their characters: each stands in the slot of its character, and the other slots are 0.
 ghost use mathlib.Core.Path.{_≡_};
-ghost use Prim.Native.Nat.{_≤_};
 ghost use mathlib.Core.Bool.{true};
 ghost use Rattle.layout.specs.Codings.Turning.{tableOf};
-ghost use Rattle.codings.specs.Slots.{right};
+ghost use Rattle.codings.specs.Slots.{fit};
 use layout::codings::DOS;
 use layout::codings::WINDOWS;
+
+// The slot of a character is character * FACTOR / DIVISOR % SLOTS. The factor was found by trying: no two characters of one coding have the
+// same slot.
+pub const SLOTS: usize = 1024;
+
+pub const FACTOR: u32 = 227;
+
+pub const DIVISOR: u32 = 16;
 
 // Code page 866, label coding 0, DOS.
 const PAGE_866: [u8; 1024] =
@@ -112,10 +119,9 @@ const KOI8_R: [u8; 1024] =
     \x00\x00\x95\x00\x44\x00\x00\x00\x00\x00\x00\x00\xda\x00\x00\x00\x96\x89\x45\x00\x00\x00\x00\x00\x00\x00\xc9\x00\x00\x00\x00\x00\
     \x00\x46\x00\x00\x00\x00\x00\x00\xca\x00\x98\x00\x00\x00\x00\x47\x00\x00\x00\x00\x00\x00\xcb\x00\x99\x00\x00\x00\x00\x48\x00\x00";
 
-// The slots of a coding.
-pub fn slots_of(coding: u32) -> [u8; 1024]
-    requires { ⌜ coding ≤ 2 ⌝ }
-    ensures { λ r. ⌜ right (tableOf coding) r ≡ true ⌝ }
+// The slots of a coding, which fit its table.
+pub fn slots_of(coding: u32) -> [u8; SLOTS]
+    ensures { λ r. ⌜ fit (tableOf coding) r ≡ true ⌝ }
 {
     if coding == DOS {
         return PAGE_866;

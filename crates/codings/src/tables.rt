@@ -1,12 +1,14 @@
 // The characters of the three codings, each table by byte: the published Unicode mappings, as specs/Codings/Tables.antt of `layout` has them.
 ghost use mathlib.Core.Path.{_≡_};
-ghost use Prim.Native.Nat.{_≤_};
 ghost use Rattle.layout.specs.Codings.Turning.{tableOf};
 use layout::codings::DOS;
 use layout::codings::WINDOWS;
 
+// How many bytes there are.
+pub const BYTES: usize = 256;
+
 // Code page 866, label coding 0, DOS.
-const PAGE_866: [u16; 256] = [
+const PAGE_866: [u16; BYTES] = [
     0x0000, // 0x00 NUL
     0x0001, // 0x01 control
     0x0002, // 0x02 control
@@ -266,7 +268,7 @@ const PAGE_866: [u16; 256] = [
 ];
 
 // Code page 1251, label coding 1, Windows.
-const PAGE_1251: [u16; 256] = [
+const PAGE_1251: [u16; BYTES] = [
     0x0000, // 0x00 NUL
     0x0001, // 0x01 control
     0x0002, // 0x02 control
@@ -526,7 +528,7 @@ const PAGE_1251: [u16; 256] = [
 ];
 
 // KOI8-R, label coding 2, KOI-8.
-const KOI8_R: [u16; 256] = [
+const KOI8_R: [u16; BYTES] = [
     0x0000, // 0x00 NUL
     0x0001, // 0x01 control
     0x0002, // 0x02 control
@@ -785,9 +787,8 @@ const KOI8_R: [u16; 256] = [
     0x042A, // 0xFF Ъ
 ];
 
-// The table of a coding.
-pub fn table_of(coding: u32) -> [u16; 256]
-    requires { ⌜ coding ≤ 2 ⌝ }
+// The table of a coding; any other number has that of KOI-8, as in the definition, and no text is turned by it.
+pub fn table_of(coding: u32) -> [u16; BYTES]
     ensures { λ r. ⌜ r ≡ tableOf coding ⌝ }
 {
     if coding == DOS {

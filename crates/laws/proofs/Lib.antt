@@ -9,6 +9,7 @@ pub mod Marked
 pub mod Cases
 pub mod Samples
 pub mod Called
+pub mod Written
 pub mod Encoding
 pub mod Reading
 pub mod Writing

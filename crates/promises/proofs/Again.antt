@@ -24,17 +24,12 @@ use Rattle.layout.specs.declared.Written.the-variants as Write
 use Rattle.layout.specs.declared.Written.{Written}
 use Rattle.laws.proofs.Again as Law
 use Rattle.laws.proofs.Writing.Sheets.{Typed}
+use Rattle.laws.proofs.Written.{by-length}
 use Rattle.promises.proofs.Contracts.{Checks, Heads, Unfolds, Writes}
 use Rattle.promises.proofs.Heads.{head-is, head-taken, head-by}
 use Rattle.promises.proofs.Rooms.{Fit, rooms-on, roomy-back, part-again, part-within}
 use Rattle.promises.specs.Hands.{headBy, tableBy, TableWithin}
 use Rattle.reading.proofs.Laws.Seen.{by-accepted}
-
--- a list of length n was written: which
-pub by-length : (a : Answer (List ℕ)) (n : ℕ) → Write.Length n ≡ writtenOf a → (s : List ℕ) × (a ≡ given s) × (n ≡ length s)
-unfolding writtenOf
-by-length (given s) n e = (s, refl, cc)
-by-length (refused m p z) n e = absurd (let x : _≡_ {A = ℕ} 0 1 = cc in omega arith)
 
 module _ (y : ℕ) (h : Head) (t : Table) (o out : List ℕ) (n : ℕ) (w : Writes y h t o out (Write.Length n)) where
   -- the sheet that the call says was written

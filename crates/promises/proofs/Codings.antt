@@ -1,39 +1,38 @@
--- Turning there and back, as promises of the two calls' contracts. (02, request 1: "turning there and back gives the same bytes"; "17 NO CHARACTER
--- with the index of the byte or 16-bit unit, left to right, then 15".) Nothing is asked of what is lent.
-use mathlib.Core.Bool.{true}
-use mathlib.Core.List.{List}
+-- What the contracts of `to_utf16` and `from_utf16` promise. (02, request 1: "turning there and back gives the same bytes"; "16 for any other coding; 17
+-- NO CHARACTER with the index of the byte or 16-bit unit, left to right, then 15".) Of what is lent nothing is asked but its length.
+use mathlib.Core.Bool.{true, false}
+use mathlib.Core.List.{List, map}
 use mathlib.Core.Logic.{_↔_}
-use mathlib.Core.Path.{_≡_, sym, ap, subst, _∙_}
-use Prim.Native.Nat.{ℕ, _≤_}
-use lib.ListN.{length, take}
+use mathlib.Core.Path.{_≡_, sym, ap, _∙_}
+use Prim.Native.Nat.{ℕ, _<_, _≤_}
+use lib.ListN.{length, length-map, take}
 use native.Mathlib.Omega.{arith}
 use Rattle.layout.specs.Answers.Calls.{over, lent}
 use Rattle.layout.specs.Answers.Enums.{refusal, writtenOf}
 use Rattle.layout.specs.Answers.Lent.{theTurned}
 use Rattle.layout.specs.Codings.Tables.{noCharacter}
 use Rattle.layout.specs.Codings.Turning.{characterOf, noByte, byteOf, toUtf16, fromUtf16}
-use Rattle.layout.specs.Refusals.{NO-CHARACTER}
+use Rattle.layout.specs.Refusals.{ROOM, ASK, NO-CHARACTER}
 use Rattle.layout.specs.Shared.Carried.{labelCoding}
 use Rattle.layout.specs.Walk.{Answer, given, refused}
 use Rattle.layout.specs.declared.Refusal.{Refusal}
 use Rattle.layout.specs.declared.Written.the-variants as Write
 use Rattle.layout.specs.declared.Written.{Written}
 use Rattle.laws.proofs.Codings as Law
-use Rattle.laws.proofs.Codings.Turned.{FirstWithout}
-use Rattle.promises.proofs.Again.{by-length}
+use Rattle.laws.proofs.Codings.Turned.{AllTurned, FirstWithout}
+use Rattle.laws.proofs.Written.{by-length, by-refusal}
 use Rattle.promises.proofs.Contracts.{Turns}
 use Rattle.promises.proofs.Rooms.{part-again}
-use Rattle.promises.proofs.Years.{written-back}
 
 -- `back` turns what `turn` gave, and gives a list of the same length
 module _ (turn back : ℕ → List ℕ → ℕ → Answer (List ℕ))
     (again : (coding : ℕ) (xs ys : List ℕ) (room more : ℕ) → turn coding xs room ≡ given ys → length ys ≤ more → back coding ys more ≡ given xs)
     (same : (coding : ℕ) (xs ys : List ℕ) (room : ℕ) → turn coding xs room ≡ given ys → length ys ≡ length xs) where
-  turned-back : (coding : ℕ) (xs o out : List ℕ) (n : ℕ) → Turns turn coding xs o out (Write.Length n)
+  round : (coding : ℕ) (xs o out : List ℕ) (n : ℕ) → Turns turn coding xs o out (Write.Length n)
       → (o′ out′ : List ℕ) (r : Written) → Turns back coding (take n out) o′ out′ r → length xs ≤ length o′
       → (n ≡ length xs) × (r ≡ Write.Length n) × (out′ ≡ over xs o′)
   unfolding writtenOf
-  turned-back coding xs o out n w o′ out′ r v room =
+  round coding xs o out n w o′ out′ r v room =
       let (ys, is, long) = by-length (turn coding xs (length o)) n (w .0) in
       let l : length ys ≡ length xs = same coding xs ys (length o) is in
       let part : take n out ≡ ys = part-again theTurned _ ys is o out (w .1) n long in
@@ -45,38 +44,78 @@ module _ (turn back : ℕ → List ℕ → ℕ → Answer (List ℕ))
 pub there-and-back : (coding : ℕ) (text o out : List ℕ) (n : ℕ) → Turns toUtf16 coding text o out (Write.Length n)
     → (o′ out′ : List ℕ) (r : Written) → Turns fromUtf16 coding (take n out) o′ out′ r → length text ≤ length o′
     → (n ≡ length text) × (r ≡ Write.Length n) × (out′ ≡ over text o′)
-there-and-back = turned-back toUtf16 fromUtf16 Law.there-and-back Law.same-length
+there-and-back = round toUtf16 fromUtf16 Law.there-and-back Law.same-length
 
 -- The other way round.
 pub back-and-there : (coding : ℕ) (units o out : List ℕ) (n : ℕ) → Turns fromUtf16 coding units o out (Write.Length n)
     → (o′ out′ : List ℕ) (r : Written) → Turns toUtf16 coding (take n out) o′ out′ r → length units ≤ length o′
     → (n ≡ length units) × (r ≡ Write.Length n) × (out′ ≡ over units o′)
-back-and-there = turned-back fromUtf16 toUtf16 Law.back-and-there Law.same-length-back
+back-and-there = round fromUtf16 toUtf16 Law.back-and-there Law.same-length-back
 
--- A refusal leaves the slice as it was.
-pub refused-kept : (turn : ℕ → List ℕ → ℕ → Answer (List ℕ)) (coding : ℕ) (xs o out : List ℕ) (q : Refusal)
-    → Turns turn coding xs o out (Write.Refused q) → out ≡ o
-refused-kept turn coding xs o out q w = w .1 ∙ ap (λ a. lent theTurned a o) (written-back (turn coding xs (length o)) q (w .0))
+-- one call, whose definition is `turn`
+module _ (turn : ℕ → List ℕ → ℕ → Answer (List ℕ)) (coding : ℕ) (xs o out : List ℕ) (r : Written) (w : Turns turn coding xs o out r) where
+  -- A refusal leaves the slice as it was.
+  pub refused-kept : (q : Refusal) → r ≡ Write.Refused q → out ≡ o
+  refused-kept q e = w .1 ∙ ap (λ a. lent theTurned a o) (by-refusal (turn coding xs (length o)) q (sym e ∙ w .0))
 
--- an answer is NO CHARACTER at an index exactly where the definition's is
-told : (turn : ℕ → List ℕ → ℕ → Answer (List ℕ)) (coding : ℕ) (xs o out : List ℕ) (r : Written) → Turns turn coding xs o out r
-    → (i : ℕ) → (r ≡ Write.Refused (refusal NO-CHARACTER i 0)) ↔ (turn coding xs (length o) ≡ refused NO-CHARACTER i 0)
-unfolding writtenOf
-told turn coding xs o out r w i =
-    (λ e. written-back (turn coding xs (length o)) (refusal NO-CHARACTER i 0) (sym e ∙ w .0), λ e. w .0 ∙ ap writtenOf e)
+  -- what the definition refuses, the call refuses
+  refuses : (number place : ℕ) → turn coding xs (length o) ≡ refused number place 0 → (r ≡ Write.Refused (refusal number place 0)) × (out ≡ o)
+  unfolding writtenOf
+  refuses number place e = (w .0 ∙ ap writtenOf e, w .1 ∙ ap (λ a. lent theTurned a o) e)
 
--- With a good coding, NO CHARACTER is answered exactly where there is a byte without a character, at the first one, however little is lent;
-pub first-byte : (coding : ℕ) (text o out : List ℕ) (r : Written) → labelCoding coding ≡ true → Turns toUtf16 coding text o out r
-    → (i : ℕ) → (r ≡ Write.Refused (refusal NO-CHARACTER i 0)) ↔ FirstWithout (characterOf coding) noCharacter text i
-first-byte coding text o out r good w i =
-    let a = told toUtf16 coding text o out r w i in
-    let b = Law.first-byte coding text (length o) i good in
-    (λ e. b .0 (a .0 e), λ e. a .1 (b .1 e))
+  -- what the definition gives, the call writes
+  gives : (ys : List ℕ) → turn coding xs (length o) ≡ given ys → (r ≡ Write.Length (length ys)) × (out ≡ over ys o)
+  unfolding writtenOf
+  gives ys e = (w .0 ∙ ap writtenOf e, w .1 ∙ ap (λ a. lent theTurned a o) e)
 
--- and back, where there is a unit without a byte.
-pub first-unit : (coding : ℕ) (units o out : List ℕ) (r : Written) → labelCoding coding ≡ true → Turns fromUtf16 coding units o out r
-    → (i : ℕ) → (r ≡ Write.Refused (refusal NO-CHARACTER i 0)) ↔ FirstWithout (byteOf coding) noByte units i
-first-unit coding units o out r good w i =
-    let a = told fromUtf16 coding units o out r w i in
-    let b = Law.first-unit coding units (length o) i good in
-    (λ e. b .0 (a .0 e), λ e. a .1 (b .1 e))
+  -- NO CHARACTER is answered where the definition refuses so
+  exactly : (P : ℕ → Type 0) → ((i : ℕ) → (turn coding xs (length o) ≡ refused NO-CHARACTER i 0) ↔ P i)
+      → (i : ℕ) → (r ≡ Write.Refused (refusal NO-CHARACTER i 0)) ↔ P i
+  exactly P law i = (
+    λ e. law i .0 (by-refusal (turn coding xs (length o)) (refusal NO-CHARACTER i 0) (sym e ∙ w .0)),
+    λ p. refuses NO-CHARACTER i (law i .1 p) .0,
+  )
+
+-- `to_utf16`
+module _ (coding : ℕ) (text o out : List ℕ) (r : Written) (w : Turns toUtf16 coding text o out r) where
+  -- With a good coding a text of which each byte has a character is turned, where there is room: its characters stand at the start of the slice.
+  pub turned-there : labelCoding coding ≡ true → AllTurned (characterOf coding) noCharacter text → length text ≤ length o
+      → (r ≡ Write.Length (length text)) × (out ≡ over (map (characterOf coding) text) o)
+  turned-there good all room =
+      let units = map (characterOf coding) text in
+      let (is, left) = gives toUtf16 coding text o out r w units (Law.given-there coding text (length o) units .1 (good, all, room, λ i. units)) in
+      (is ∙ ap Write.Length (length-map text (characterOf coding)), left)
+
+  -- Any other coding is ASK;
+  pub ask-there : labelCoding coding ≡ false → (r ≡ Write.Refused (refusal ASK 0 0)) × (out ≡ o)
+  ask-there bad = refuses toUtf16 coding text o out r w ASK 0 (Law.ask-there coding text (length o) bad)
+
+  -- with a good one NO CHARACTER is answered exactly where there is a byte without a character, at the first one, however little is lent;
+  pub first-byte : labelCoding coding ≡ true
+      → (i : ℕ) → (r ≡ Write.Refused (refusal NO-CHARACTER i 0)) ↔ FirstWithout (characterOf coding) noCharacter text i
+  first-byte good = exactly toUtf16 coding text o out r w _ (λ i. Law.first-byte coding text (length o) i good)
+
+  -- and ROOM where each has one, and they do not fit.
+  pub room-there : labelCoding coding ≡ true → AllTurned (characterOf coding) noCharacter text → length o < length text
+      → (r ≡ Write.Refused (refusal ROOM 0 0)) × (out ≡ o)
+  room-there good all short = refuses toUtf16 coding text o out r w ROOM 0 (Law.room-there coding text (length o) good all short)
+
+-- `from_utf16`, in the same words
+module _ (coding : ℕ) (units o out : List ℕ) (r : Written) (w : Turns fromUtf16 coding units o out r) where
+  pub turned-back : labelCoding coding ≡ true → AllTurned (byteOf coding) noByte units → length units ≤ length o
+      → (r ≡ Write.Length (length units)) × (out ≡ over (map (byteOf coding) units) o)
+  turned-back good all room =
+      let text = map (byteOf coding) units in
+      let (is, left) = gives fromUtf16 coding units o out r w text (Law.given-back coding units (length o) text .1 (good, all, room, λ i. text)) in
+      (is ∙ ap Write.Length (length-map units (byteOf coding)), left)
+
+  pub ask-back : labelCoding coding ≡ false → (r ≡ Write.Refused (refusal ASK 0 0)) × (out ≡ o)
+  ask-back bad = refuses fromUtf16 coding units o out r w ASK 0 (Law.ask-back coding units (length o) bad)
+
+  pub first-unit : labelCoding coding ≡ true
+      → (i : ℕ) → (r ≡ Write.Refused (refusal NO-CHARACTER i 0)) ↔ FirstWithout (byteOf coding) noByte units i
+  first-unit good = exactly fromUtf16 coding units o out r w _ (λ i. Law.first-unit coding units (length o) i good)
+
+  pub room-back : labelCoding coding ≡ true → AllTurned (byteOf coding) noByte units → length o < length units
+      → (r ≡ Write.Refused (refusal ROOM 0 0)) × (out ≡ o)
+  room-back good all short = refuses fromUtf16 coding units o out r w ROOM 0 (Law.room-back coding units (length o) good all short)

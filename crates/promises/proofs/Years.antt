@@ -39,6 +39,7 @@ use Rattle.layout.specs.declared.Written.the-variants as Write
 use Rattle.layout.specs.declared.Written.{Written}
 use Rattle.laws.proofs.Base.Lists.{cond-both}
 use Rattle.laws.proofs.Years as Law
+use Rattle.laws.proofs.Written.{by-refusal}
 use Rattle.laws.proofs.Years.Walks.{FirstAt, first-late, none-late}
 use Rattle.promises.proofs.Contracts.{Checks, Heads, Units, Cornered, Finds, Unfolds, Writes}
 
@@ -224,12 +225,7 @@ unfold-2017 s t₀ e₀ b₀ t₁ e₁ b₁ place year q c e =
     let r = rooms t₀ e₀ b₀ in
     Law.at-2017-roomy s r place year (checked-back (roomy 2017 s r) (tooNew place year) (sym e ∙ c .0))
 
-pub written-back : (a : Answer (List ℕ)) (q : Refusal) → Write.Refused q ≡ writtenOf a → a ≡ refused (q .number) (q .place) (q .year)
-unfolding writtenOf
-written-back (given t) q e = absurd (let i : _≡_ {A = ℕ} 0 1 = cc in omega arith)
-written-back (refused n p y) q e = cc
-
 pub write-2017 : (h : Head) (t : Table) (o out : List ℕ) (place year : ℕ) (q : Written) → Writes 2017 h t o out q
     → ¬ (q ≡ Write.Refused (tooNew place year))
 write-2017 h t o out place year q c e =
-    Law.at-2017-written h t (length o) place year (written-back (written 2017 h t (length o)) (tooNew place year) (sym e ∙ c .0))
+    Law.at-2017-written h t (length o) place year (by-refusal (written 2017 h t (length o)) (tooNew place year) (sym e ∙ c .0))

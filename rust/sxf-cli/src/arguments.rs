@@ -33,6 +33,9 @@ pub enum Command {
         at: AtYear,
     },
     /// Show a sheet, or one record of it, for people
+    ///
+    /// Texts are shown in their characters, with their coding. A byte that has no character is shown as \\x98, and so is what would end or steer
+    /// the line: \\n, \\u{1b}.
     Show {
         /// The sheet
         file: PathBuf,
@@ -51,12 +54,17 @@ pub enum Command {
     Table {
         /// The sheet
         file: PathBuf,
+        /// Print every text as bytes
+        #[arg(long)]
+        bytes: bool,
         #[command(flatten)]
         at: AtYear,
     },
     /// Write a sheet from JSON lines as `sxf table` prints them
     ///
-    /// The file is written whole or not at all. Where the head has `records`, so many records must follow; without it any number may.
+    /// The file is written whole or not at all. Where the head has `records`, so many records must follow; without it any number may. A text is
+    /// taken as characters (title, label, an item's text), by its coding, or as bytes (title_bytes, label_bytes, an item's scale and value). The
+    /// lines are UTF-8.
     Write {
         /// The JSON lines
         json: PathBuf,

@@ -63,8 +63,17 @@ impl<R: Read> Lines<R> {
         self.read += usize::from(length != 0);
         match NOT_LINES.iter().find(|(bytes, _)| !begun && self.value.starts_with(bytes)) {
             Some((_, what)) => Err(format!("line {} {what}", self.read)),
-            None => Ok(length),
+            None => self.characters(length).map(|()| length),
         }
+    }
+
+    /// Sees that the last line, of so many bytes, is UTF-8: a file of Cyrillic text may have been saved in another coding.
+    fn characters(&self, length: usize) -> Result<(), String> {
+        let line = &self.value[self.value.len() - length..];
+        str::from_utf8(line).map(drop).map_err(|error| {
+            let place = error.valid_up_to();
+            format!("line {}: column {}: byte {:#04x} is not UTF-8; save the lines as UTF-8", self.read, place + 1, line[place])
+        })
     }
 
     /// Parses the value that was read last. A line number that the parser gives counts from the value's first line.

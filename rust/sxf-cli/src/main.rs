@@ -7,6 +7,7 @@
 mod arguments;
 mod check;
 mod element;
+mod escapes;
 mod failure;
 mod head;
 mod hex;
@@ -45,7 +46,7 @@ fn done(command: &Command, out: &mut dyn Write) -> Result<(), Failure> {
         Command::List { file } => list::run(file, out),
         Command::Check { file, at } => check::run(file, at.year, out),
         Command::Show { file, record, at } => show::run(file, *record, at.year, out),
-        Command::Table { file, at } => table::run(file, at.year, out),
+        Command::Table { file, bytes, at } => table::run(file, *bytes, at.year, out),
         Command::Write { json, output: file, force, at } => write::run(json, &Target { file, force: *force }, at.year, out),
         Command::Years { file } => years::run(file, out),
     }

@@ -1,8 +1,8 @@
 //! Texts for people: in quotation marks, with the coding.
 use sxf::{Stray, Text};
 
-/// A text and its coding, `"Газ" (KOI-8)`. What has no character is shown as an escape, and besides it what would end the line, steer a
-/// terminal, or be taken for an escape or for the end of the text.
+/// A text and its coding, `"Газ" (KOI-8)`. What has no character is shown as an escape, and besides it what [acts](acts) on the line, or would be
+/// taken for an escape or for the end of the text.
 pub fn quoted(text: &Text<'_>) -> String {
     let mut told = String::new();
     let (mut rest, width) = (*text, text.coding.width());
@@ -28,10 +28,18 @@ fn character(character: char) -> String {
     }
 }
 
-/// A character, or its escape where a terminal would act on it.
+/// Whether a character acts on the line that it stands in, and is not seen in it: it ends the line, steers a terminal, turns the direction of
+/// what follows, or has no width; or it is none. Of the three codings of one byte only the controls of ASCII do.
+pub fn acts(character: char) -> bool {
+    let format = ['\u{61C}'..='\u{61C}', '\u{200B}'..='\u{200F}', '\u{2028}'..='\u{202E}', '\u{2060}'..='\u{206F}'];
+    let none = ['\u{FEFF}'..='\u{FEFF}', '\u{FFFE}'..='\u{FFFF}'];
+    character.is_control() || format.iter().chain(&none).any(|range| range.contains(&character))
+}
+
+/// A character, or its escape where it acts on the line.
 pub fn visible(character: char) -> String {
-    if character.is_control() {
-        character.escape_debug().to_string()
+    if acts(character) {
+        character.escape_default().to_string()
     } else {
         character.to_string()
     }
@@ -78,9 +86,20 @@ mod tests {
 
     #[test]
     fn controls_quotation_marks_and_backslashes_are_escaped() {
-        assert_eq!(shown(Coding::Dos, b"a\0b\n\t\r\x1B[2J\x7F"), r#""a\0b\n\t\r\u{1b}[2J\u{7f}" (DOS)"#);
+        assert_eq!(shown(Coding::Dos, b"a\x00005\n\t\r\x1B[2J\x7F"), r#""a\u{0}005\n\t\r\u{1b}[2J\u{7f}" (DOS)"#);
         assert_eq!(shown(Coding::Windows, br#""\x98" 'a'"#), r#""\"\\x98\" 'a'" (Windows)"#);
         assert_eq!(utf16(&[0x85, 0x9B], &[]), r#""\u{85}\u{9b}" (UTF-16)"#);
+    }
+
+    /// Ends of lines, marks of direction, what has no width, and what is no character; their neighbours are shown.
+    #[test]
+    fn what_acts_on_the_line_is_escaped() {
+        let acting = [0x61C, 0x200B, 0x200F, 0x2028, 0x202E, 0x2060, 0x206F, 0xFEFF, 0xFFFE, 0xFFFF];
+        for unit in acting {
+            assert_eq!(utf16(&[unit], &[]), format!("\"\\u{{{unit:x}}}\" (UTF-16)"));
+        }
+        let shown = "\u{61B}\u{200A}\u{2010}\u{2027}\u{202F}\u{205F}\u{2070}\u{FEFE}\u{FFFD}";
+        assert_eq!(utf16(&shown.encode_utf16().collect::<Vec<_>>(), &[]), format!("\"{shown}\" (UTF-16)"));
     }
 
     /// Every byte of the three codings: the one without a character is the one that is shown as \x.

@@ -1,4 +1,5 @@
 //! `sxf table`: head and record table as JSON lines.
+use crate::escapes::Escapes;
 use crate::failure::Failure;
 use crate::hex::Hex;
 use crate::input;
@@ -11,22 +12,23 @@ use std::io::{self, Write};
 use std::path::Path;
 use sxf::{Head, Item, Part, Record, Reference, Setting, Text};
 
-pub fn run(file: &Path, setting: Setting, out: &mut dyn Write) -> Result<(), Failure> {
+/// Each text as characters where it can be, or as bytes alone.
+pub fn run(file: &Path, as_bytes: bool, setting: Setting, out: &mut dyn Write) -> Result<(), Failure> {
     let bytes = input::bytes(file)?;
     let sheet = input::sheet(file, &bytes, setting)?;
     let head = sheet.head().map_err(|refusal| Failure::refused(file, refusal))?;
-    line(&head_line(&head, sheet.record_count()), out)?;
-    sheet.records().try_for_each(|record| line(&record_line(&record), out))
+    line(&head_line(&head, as_bytes, sheet.record_count()), out)?;
+    sheet.records().try_for_each(|record| line(&record_line(&record, as_bytes), out))
 }
 
 fn line(line: &impl Serialize, out: &mut dyn Write) -> Result<(), Failure> {
-    serde_json::to_writer(&mut *out, line).map_err(io::Error::from)?;
+    line.serialize(&mut serde_json::Serializer::with_formatter(&mut *out, Escapes)).map_err(io::Error::from)?;
     out.write_all(b"\n")?;
     Ok(())
 }
 
-fn head_line<'a>(head: &Head<'a>, records: usize) -> HeadLine<'a> {
-    let fields = |bytes| text::fields(&Text { coding: Head::CODING, bytes });
+fn head_line<'a>(head: &Head<'a>, as_bytes: bool, records: usize) -> HeadLine<'a> {
+    let fields = |bytes| text::fields(&Text { coding: Head::CODING, bytes }, as_bytes);
     let (date, date_bytes) = fields(head.date);
     let (designation, designation_bytes) = fields(head.designation);
     let (title, title_bytes) = fields(head.title);
@@ -49,7 +51,7 @@ fn head_line<'a>(head: &Head<'a>, records: usize) -> HeadLine<'a> {
     }
 }
 
-fn record_line<'a>(record: &Record<'a>) -> RecordLine<'a> {
+fn record_line<'a>(record: &Record<'a>, as_bytes: bool) -> RecordLine<'a> {
     RecordLine {
         code: record.code().into(),
         in_group: record.in_group().into(),
@@ -57,18 +59,19 @@ fn record_line<'a>(record: &Record<'a>) -> RecordLine<'a> {
         reference: record.reference().0.into(),
         generalisation: record.generalisation().into(),
         word: record.word().into(),
-        parts: record.parts().map(|part| part_line(record.reference(), &part)).collect(),
-        items: record.items().map(|item| item_line(&item)).collect(),
+        parts: record.parts().map(|part| part_line(record.reference(), &part, as_bytes)).collect(),
+        items: record.items().map(|item| item_line(&item, as_bytes)).collect(),
     }
 }
 
-fn part_line<'a>(reference: Reference, part: &Part<'a>) -> PartLine<'a> {
-    let (label, label_bytes) = part.text().filter(|text| !text.bytes.is_empty()).map_or((None, None), |text| text::fields(&text));
+fn part_line<'a>(reference: Reference, part: &Part<'a>, as_bytes: bool) -> PartLine<'a> {
+    let text = part.text().filter(|text| !text.bytes.is_empty());
+    let (label, label_bytes) = text.map_or((None, None), |text| text::fields(&text, as_bytes));
     PartLine { points: Points::of(reference, part.elements()), label, label_bytes }
 }
 
-fn item_line<'a>(item: &Item<'a>) -> ItemLine<'a> {
-    let text = text::of_item(item);
+fn item_line<'a>(item: &Item<'a>, as_bytes: bool) -> ItemLine<'a> {
+    let text = if as_bytes { None } else { text::of_item(item) };
     let (scale, value) = match text {
         Some(_) => (None, None),
         None => (Some(item.scale.into()), Some(Hex::of(item.bytes))),

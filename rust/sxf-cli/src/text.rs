@@ -3,9 +3,9 @@ use crate::hex::Hex;
 use std::borrow::Cow;
 use sxf::{Coding, Item, NewItem, NoCharacter, Text, Value};
 
-/// The two fields of a text, of which one is there.
-pub fn fields<'a>(text: &Text<'a>) -> (Option<String>, Option<Hex<'a>>) {
-    match characters(text) {
+/// The two fields of a text, of which one is there: that of bytes where it is asked for.
+pub fn fields<'a>(text: &Text<'a>, as_bytes: bool) -> (Option<String>, Option<Hex<'a>>) {
+    match if as_bytes { None } else { characters(text) } {
         Some(string) => (Some(string), None),
         None => (None, Some(Hex::of(text.bytes))),
     }

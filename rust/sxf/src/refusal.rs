@@ -15,8 +15,8 @@ use sxf_sys::refusals;
 pub struct Refusal {
     /// The documents' number, 1 to 17.
     pub number: u32,
-    /// A byte of the sheet, or for the writer's table an index of its numbers, or for [`NO_CHARACTER`](Refusal::NO_CHARACTER) an index of the
-    /// text. For [`ROOM`](Refusal::ROOM) of unfolding it is 1, 2 or 3, the output that is too small.
+    /// A byte of the sheet, or for the writer's table an index of its numbers, or for [`NO_CHARACTER`](Refusal::NO_CHARACTER) an index of what
+    /// was to be turned. For [`ROOM`](Refusal::ROOM) of unfolding it is 1, 2 or 3, the output that is too small.
     pub place: usize,
     /// The year of the feature for [`TOO_NEW`](Refusal::TOO_NEW), else 0.
     pub year: u32,

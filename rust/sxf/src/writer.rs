@@ -204,7 +204,8 @@ impl NewRecord {
     }
 }
 
-/// A record that was read, to be written again or changed first.
+/// A record that was read, to be written again or changed first. Its labels are the bytes that they were: a head whose byte 97 names another
+/// coding makes other characters of them.
 ///
 /// ```
 /// use sxf::{NewRecord, Setting, Sheet, Writer};

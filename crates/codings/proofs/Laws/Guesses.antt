@@ -1,5 +1,5 @@
 -- What the code reads out of a coding's table and slots is what the definitions turn to: the guess of a character's slot is sound by the look
--- into the table, and complete since the slots fit it (`right`).
+-- into the table, and complete since the slots fit it (`fit`).
 use Prim.Native.Nat.{ℕ, zero, suc, _<_, _≤_, _%_}
 use mathlib.Core.Bool.{Bool, true, false, cond, not, _||_}
 use mathlib.Core.List.{List, [], _∷_, map}
@@ -14,7 +14,7 @@ use Rattle.layout.specs.Codings.Turning.{firstOf, tableOf, characterOf, noByte,
 use Rattle.laws.proofs.Base.Every.{every, entry}
 use Rattle.laws.proofs.Base.Lists.{both-true}
 use Rattle.laws.proofs.Codings.Tables.{table-length, is-byte, byte-back, character-back}
-use Rattle.codings.specs.Slots.{readIn, slotOf, guessIn, misses, right}
+use Rattle.codings.specs.Slots.{readIn, slotOf, guessIn, misses, fit}
 
 -- an entry as the code reads it has 0 past the end, where the definition has no character
 read-is : (t : List ℕ) (k d e : ℕ) → k < length t → getD t k d ≡ getD t k e
@@ -44,17 +44,17 @@ characters-same c t xs n e q h =
     rw e (map-same (characterOf c) (readIn (tableOf c)) noCharacter (λ b has. read-byte c b (is-byte c b has)) xs (rw q at h))
 
 -- slots that fit the table of a coding
-module _ (c : ℕ) (slots : List ℕ) (fit : right (tableOf c) slots ≡ true) where
-  record Fits : Type 0 where
+module _ (c : ℕ) (slots : List ℕ) (fits : fit (tableOf c) slots ≡ true) where
+  record Parts : Type 0 where
     long : length slots ≡ 1024
     bytes : every (λ k slot. ltb slot 256) 0 slots ≡ true
     guessed : every (λ byte character. eqb character noCharacter || eqb (guessIn slots character) byte) 0 (tableOf c) ≡ true
     none-found : misses slots (tableOf c) noCharacter ≡ true
 
-  fits : Fits
-  unfolding right
-  fits =
-      let (three, n) = both-true _ (misses slots (tableOf c) noCharacter) fit in
+  parts : Parts
+  unfolding fit
+  parts =
+      let (three, n) = both-true _ (misses slots (tableOf c) noCharacter) fits in
       let (two, g) = both-true _ (every (λ byte character. eqb character noCharacter || eqb (guessIn slots character) byte) 0 (tableOf c)) three in
       let (l, b) = both-true _ (every (λ k slot. ltb slot 256) 0 slots) two in
       record { long = eqb-true _ _ l; bytes = b; guessed = g; none-found = n }
@@ -62,14 +62,14 @@ module _ (c : ℕ) (slots : List ℕ) (fit : right (tableOf c) slots ≡ true) w
   guess-lt : (u : ℕ) → guessIn slots u < 256
   guess-lt u =
       ltb-true (guessIn slots u) 256
-      (entry (λ k slot. ltb slot 256) slots 0 (fits .bytes) (slotOf u) (rw (fits .long) (omega arith)))
+      (entry (λ k slot. ltb slot 256) slots 0 (parts .bytes) (slotOf u) (rw (parts .long) (omega arith)))
 
   guess-back : (b : ℕ) → characterOf c b ≢ noCharacter → guessIn slots (characterOf c b) ≡ b
   unfolding characterOf
   guess-back b h =
       eqb-true (guessIn slots (getD (tableOf c) b noCharacter)) b
       (rw (ne-eqb _ _ h) at (entry (λ byte character. eqb character noCharacter || eqb (guessIn slots character) byte) (tableOf c) noCharacter
-      (fits .guessed) b (rw table-length (is-byte c b h))))
+      (parts .guessed) b (rw table-length (is-byte c b h))))
 
   pub guess-byte : (u : ℕ) → byteOf c u ≢ noByte → guessIn slots u ≡ byteOf c u
   guess-byte u h =
@@ -83,7 +83,9 @@ module _ (c : ℕ) (slots : List ℕ) (fit : right (tableOf c) slots ≡ true) w
   found : (u : ℕ) → characterOf c (guessIn slots u) ≡ u → byteOf c u ≢ noByte
   unfolding misses
   found u e =
-      let not-none : u ≢ noCharacter = λ q. absurd (eqb-false _ _ (not-true _ (fits .none-found)) (read-guess noCharacter ∙ subst (λ v. characterOf c (guessIn slots v) ≡ v) q e)) in
+      let none-missed = eqb-false _ _ (not-true _ (parts .none-found)) in
+      let not-none : u ≢ noCharacter =
+      λ q. none-missed (read-guess noCharacter ∙ subst (λ v. characterOf c (guessIn slots v) ≡ v) q e) in
       let has : characterOf c (guessIn slots u) ≢ noCharacter = λ q. not-none (sym e ∙ q) in
       let is : byteOf c u ≡ guessIn slots u = rw e at (byte-back c (guessIn slots u) has) in
       λ q. omega (arith, is, q, guess-lt u)

@@ -8,6 +8,7 @@ use borrow.Author.Tests.{eqb-true, eqb-false, ltb-true, ltb-false, ne-eqb}
 use lib.Dec.{eqb, ltb}
 use lib.ListN.{length, getD, List·getD-eq-default}
 use native.Mathlib.Omega.{arith}
+use Rattle.layout.specs.Bytes.{agree}
 use Rattle.layout.specs.Codings.Tables.{noCharacter, page866, page1251, koi8r}
 use Rattle.layout.specs.Codings.Turning.{firstOf, tableOf, characterOf, noByte, byteOf}
 use Rattle.laws.proofs.Base.Every.{every, entry}
@@ -27,7 +28,7 @@ unfolding page866 page1251 koi8r
 table-length = by-coding (λ t. length t ≡ 256) refl refl refl
 
 -- the index of a character in a table
-abbrev placeIn : List ℕ → ℕ → ℕ
+abbrev pub placeIn : List ℕ → ℕ → ℕ
 placeIn t x = firstOf (λ y. eqb y x) t
 
 -- No entry comes twice: the first place of each is its own.
@@ -38,7 +39,7 @@ once-each : (c : ℕ) → OnceEach (tableOf c)
 unfolding page866 page1251 koi8r firstOf OnceEach
 once-each = by-coding OnceEach refl refl refl
 
-place-back : (c b : ℕ) → b < 256 → placeIn (tableOf c) (characterOf c b) ≡ b
+pub place-back : (c b : ℕ) → b < 256 → placeIn (tableOf c) (characterOf c b) ≡ b
 unfolding characterOf OnceEach
 place-back c b h =
     eqb-true (placeIn (tableOf c) (getD (tableOf c) b noCharacter)) b
@@ -73,11 +74,6 @@ is-byte c b h = go (ltb b 256) refl
     go true e = ltb-true b 256 e
     go false e = absurd (h (List·getD-eq-default (tableOf c) noCharacter (omega (arith, table-length c, ltb-false b 256 e))))
 
-pub no-two : (c a b : ℕ) → characterOf c a ≢ noCharacter → characterOf c a ≡ characterOf c b → a ≡ b
-no-two c a b h e =
-    let hb : characterOf c b ≢ noCharacter = λ q. h (e ∙ q) in
-    sym (place-back c a (is-byte c a h)) ∙ ap (placeIn (tableOf c)) e ∙ place-back c b (is-byte c b hb)
-
 -- a byte's character has that byte, and a character's byte has that character
 pub byte-back : (c b : ℕ) → characterOf c b ≢ noCharacter → byteOf c (characterOf c b) ≡ b
 unfolding byteOf
@@ -95,31 +91,19 @@ character-back c u h = go (eqb u noCharacter) refl h
         rw table-length (omega (arith, first-le (λ y. eqb y u) (tableOf c), table-length c, h)) in
         (place-there u noCharacter (tableOf c) n, eqb-false u noCharacter e)
 
+pub agree-is : (a b : Bool) → agree a b ≡ true → a ≡ b
+agree-is true b e = sym e
+agree-is false true e = e
+agree-is false false e = refl
+
 -- A byte without a character is 0x98 of page 1251, and no other.
-same : Bool → Bool → Bool
-same true b = b
-same false true = false
-same false false = true
-
-same-is : (a b : Bool) → same a b ≡ true → a ≡ b
-unfolding same
-same-is true b e = sym e
-same-is false true e = e
-same-is false false e = refl
-
-only : (c : ℕ) → every (λ k x. same (eqb x noCharacter) (eqb c 1 && eqb k 0x98)) 0 (tableOf c) ≡ true
-unfolding tableOf page866 page1251 koi8r same
-only c = go (eqb c 0) (eqb c 1) refl refl
+pub without : (c : ℕ) → every (λ k x. agree (eqb x noCharacter) (eqb c 1 && eqb k 0x98)) 0 (tableOf c) ≡ true
+unfolding tableOf page866 page1251 koi8r
+without c = go (eqb c 0) (eqb c 1) refl refl
   where
     go : (p q : Bool) → eqb c 0 ≡ p → eqb c 1 ≡ q
-        → every (λ k x. same (eqb x noCharacter) (q && eqb k 0x98)) 0 (cond p page866 (cond q page1251 koi8r)) ≡ true
+        → every (λ k x. agree (eqb x noCharacter) (q && eqb k 0x98)) 0 (cond p page866 (cond q page1251 koi8r)) ≡ true
     go true true d e = absurd (omega (arith, eqb-true c 0 d, eqb-true c 1 e))
     go true false d e = refl
     go false true d e = refl
     go false false d e = refl
-
-pub without : (c b : ℕ) → b < 256 → eqb (characterOf c b) noCharacter ≡ (eqb c 1 && eqb b 0x98)
-unfolding characterOf
-without c b h =
-    same-is (eqb (getD (tableOf c) b noCharacter) noCharacter) (eqb c 1 && eqb b 0x98)
-    (entry (λ k x. same (eqb x noCharacter) (eqb c 1 && eqb k 0x98)) (tableOf c) noCharacter (only c) b (rw table-length h))

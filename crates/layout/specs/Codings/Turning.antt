@@ -26,7 +26,8 @@ tableOf coding = cond (eqb coding 0) page866 (cond (eqb coding 1) page1251 koi8r
 unfoldable pub characterOf : ℕ → ℕ → ℕ
 characterOf coding byte = getD (tableOf coding) byte noCharacter
 
--- the byte of a character is the index at which the table has it; where it has it nowhere, 256, which is no byte
+-- The byte of a character is the index at which the table has it; where it has it nowhere, 256, which is no byte. 0xFFFF is no character, so it
+-- has no byte, though page 1251's list has it at 0x98.
 abbrev pub noByte : ℕ
 noByte = 256
 
@@ -60,7 +61,7 @@ unfolding turned firstOf tableOf characterOf byteOf page866 page1251 koi8r
 words = (refl, refl, refl, refl, refl, refl, refl, refl)
 
 -- ASK comes first, then the first that has none, however short the output is, then ROOM; a surrogate has no byte, nor has 0xFFFF
-refusals : (toUtf16 3 (0x98 ∷ []) 0 ≡ refused 16 0 0) × (toUtf16 1 (0x41 ∷ 0x98 ∷ 0x98 ∷ []) 0 ≡ refused 17 1 0)
+refusals : (toUtf16 3 (0x41 ∷ []) 0 ≡ refused 16 0 0) × (toUtf16 1 (0x41 ∷ 0x98 ∷ 0x98 ∷ []) 0 ≡ refused 17 1 0)
     × (toUtf16 0 (0x41 ∷ 0x98 ∷ []) 1 ≡ refused 15 0 0) × (fromUtf16 4294967295 (0xFFFF ∷ []) 0 ≡ refused 16 0 0)
     × (fromUtf16 1 (0xFFFF ∷ []) 1 ≡ refused 17 0 0) × (fromUtf16 0 (0x41 ∷ 0x00A0 ∷ 0x2026 ∷ []) 0 ≡ refused 17 2 0)
     × (fromUtf16 2 (0x41 ∷ 0xD83D ∷ []) 0 ≡ refused 17 1 0) × (fromUtf16 2 (0x41 ∷ 0x00A9 ∷ []) 1 ≡ refused 15 0 0)

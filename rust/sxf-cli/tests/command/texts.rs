@@ -7,7 +7,7 @@ use sxf::{Head, Setting, TableRef};
 /// The three sheets of Cyrillic, with the name of their labels' coding and the label of the second part.
 const CYRILLIC: [(&str, &str, &str); 3] = [
     ("cyrillic-dos", "DOS", "Колодец № 5"),
-    ("cyrillic-windows", "Windows", "Колодец № 5\\0"),
+    ("cyrillic-windows", "Windows", "Колодец № 5\\u{0}"),
     ("cyrillic-koi8", "KOI-8", "Ёлкино"),
 ];
 
@@ -23,7 +23,7 @@ fn cyrillic_is_shown_with_its_coding() {
             &format!("label coding       {coding}"),
             &format!("    text \"Газопровод\" ({coding})"),
             &format!("    text \"{second}\" ({coding})"),
-            "    text \"Ёлкино, колодец № 5\\0\" (UTF-16)",
+            "    text \"Ёлкино, колодец № 5\\u{0}\" (UTF-16)",
             "  item 0, code 8, type 0, scale byte 14: \"МОСКВА, Ёлкино\" (DOS)",
             "  item 1, code 9, type 126, scale byte 11: \"Колодец № 5\" (Windows)",
             "  item 2, code 10, type 127, scale byte 11: \"Река Москва\" (UTF-16)",
@@ -67,7 +67,7 @@ fn texts_are_characters_in_the_lines() {
             ),
             format!(
                 r#"{{"code":91000000,"number_in_group":1,"group_number":1,"reference":524803,"generalisation":255,"word":0,"parts":[{{"points":[[100,200]],"label":"Газопровод"}},{{"points":[[100,190],[140,190]],"label":"{}"}}],"items":[{{"code":8,"type":0,"text":"МОСКВА, Ёлкино"}},{{"code":9,"type":126,"text":"Колодец № 5"}},{{"code":10,"type":127,"text":"Река Москва"}},{{"code":11,"type":128,"text":"Ёлкино, колодец № 5 — у реки"}}]}}"#,
-                second.replace("\\0", "\\u0000")
+                second.replace("\\u{0}", "\\u0000")
             ),
             r#"{"code":91000001,"number_in_group":0,"group_number":0,"reference":528387,"generalisation":255,"word":0,"parts":[{"points":[[100,180]],"label":"Ёлкино, колодец № 5\u0000"}],"items":[]}"#.to_string(),
         ];
@@ -288,4 +288,63 @@ fn a_label_under_no_reference_is_left_to_the_library() {
         lines.as_bytes(),
         "refusal 14 TABLE at 3 (0x3): the record table is not well formed here (line 2, record 0, reference bytes)",
     );
+}
+
+/// With --bytes no text is characters, and the sheet is written again from such lines.
+#[test]
+fn every_text_is_bytes_where_that_is_asked_for() {
+    let folder = Folder::new("as-bytes");
+    for name in ["cyrillic-dos", "cyrillic-windows", "cyrillic-koi8", "no-character", "labels", "items"] {
+        let table = out(&on("table", &sample(name), &["--bytes"]));
+        for field in ["date", "designation", "title", "designation2", "label", "text"] {
+            assert!(!table.contains(&format!("\"{field}\":")), "{name}: {field}");
+        }
+        assert!(table.is_ascii() && table.contains("\"title_bytes\":"), "{name}");
+        assert_eq!(status(&write(table.as_bytes(), &folder.file("again.sxf"), &["--force"])), 0);
+        assert!(fs::read(folder.file("again.sxf")).expect("a sheet") == fs::read(sample(name)).expect("a sample"), "{name}");
+    }
+}
+
+/// Labels that byte 97 names wrongly are put right by it alone, where texts are bytes.
+#[test]
+fn a_wrong_byte_97_is_put_right() {
+    let folder = Folder::new("wrong-97");
+    let lines = |name: &str| out(&on("table", &sample(name), &["--bytes"]));
+    let (windows, dos) = (lines("cyrillic-windows"), lines("cyrillic-windows").replace("\"rest\":\"0301", "\"rest\":\"0300"));
+    assert_ne!(windows, dos);
+    assert_eq!(status(&write(dos.as_bytes(), &folder.file("wrong.sxf"), &[])), 0);
+    let shown = out(&on("show", &folder.file("wrong.sxf"), &[]));
+    assert!(shown.contains("text \"├рчюяЁютюф\" (DOS)"), "{shown}");
+    let right = out(&on("table", &folder.file("wrong.sxf"), &["--bytes"])).replace("\"rest\":\"0300", "\"rest\":\"0301");
+    assert_eq!(status(&write(right.as_bytes(), &folder.file("right.sxf"), &[])), 0);
+    assert!(fs::read(folder.file("right.sxf")).expect("a sheet") == fs::read(sample("cyrillic-windows")).expect("a sample"));
+}
+
+/// What acts on a line stands in a text of UTF-16 alone: it is an escape in what is printed, and comes back.
+#[test]
+fn no_text_acts_on_a_line_that_is_printed() {
+    let folder = Folder::new("acting");
+    let acting = "\u{9B}31m\u{7F}\u{85}\u{2028}\u{202E}\u{FEFF}Газ";
+    let table = out(&on("table", &sample("items"), &[]));
+    let line = table.lines().nth(1).expect("a record");
+    let item = format!("\"items\":[{{\"code\":1,\"type\":127,\"text\":\"{acting}\"}},");
+    let lines = table.replacen("\"items\":[", &item, 1);
+    assert!(line.contains("\"items\":[{"), "{line}");
+    assert_eq!(status(&write(lines.as_bytes(), &folder.file("acting.sxf"), &[])), 0);
+    let (shown, printed) = (out(&on("show", &folder.file("acting.sxf"), &[])), out(&on("table", &folder.file("acting.sxf"), &[])));
+    assert!(shown.contains(r#""\u{9b}31m\u{7f}\u{85}\u{2028}\u{202e}\u{feff}Газ" (UTF-16)"#), "{shown}");
+    assert!(printed.contains(r#""text":"\u009b31m\u007f\u0085\u2028\u202e\ufeffГаз""#), "{printed}");
+    assert_eq!(status(&write(printed.as_bytes(), &folder.file("again.sxf"), &[])), 0);
+    assert!(fs::read(folder.file("again.sxf")).expect("a sheet") == fs::read(folder.file("acting.sxf")).expect("a sheet"));
+}
+
+/// Lines that an editor saved in the Windows coding.
+#[test]
+fn lines_that_are_not_utf8_are_told() {
+    let folder = Folder::new("not-utf8");
+    let table = out(&on("table", &sample("cyrillic-windows"), &[]));
+    let place = table.find("Газопровод").expect("a label");
+    let saved = [&table.as_bytes()[..place], b"\xC3\xE0\xE7", &table.as_bytes()[place..]].concat();
+    let column = place - table[..place].rfind('\n').expect("a line before");
+    is_told(&folder, 2, &saved, &format!("line 2: column {column}: byte 0xc3 is not UTF-8; save the lines as UTF-8"));
 }
