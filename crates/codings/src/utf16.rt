@@ -23,8 +23,8 @@ fn refused(number: u32, place: usize) -> Written
     ensures { λ r. ⌜ r ≡ Written.Refused (refusal number place 0) ⌝ }
 {
     Written::Refused(Refusal {
-        number: number,
-        place: place,
+        number,
+        place,
         year: 0,
     })
 }

@@ -1,5 +1,5 @@
-// What the library answers: the types of its answers, and beside them (specs/) the definitions of document 01 that say which answer
-// is given when. Nothing here runs, and nothing is relied on. The contracts of the crates above say what they mean by these definitions.
+// What the library answers: the types of its answers, and beside them (specs/) the definitions of documents 01 and 02 that say
+// which answer is given when. Nothing here runs, and nothing is relied on. The contracts of the crates above say what they mean by these definitions.
 
 pub mod bounds;
 pub mod carried;

@@ -21,8 +21,9 @@ returns-2 c = λ turn none xs e l.
 returns-3 : tie.Need-returns-3
 unfolding writtenOf
 returns-3 c = λ turn none xs e l.
+    let looked = c .before .before in
     c .refused3 .ensures
-    ∙ ap writtenOf (sym (turned-short turn none _ xs _ _ e (omega arith) (omega (arith, l, c .before .before .if2 .left)) (omega (arith, l, c .before .if3 .taken))))
+    ∙ ap writtenOf (sym (turned-short turn none _ xs _ _ e (omega arith) (omega (arith, l, looked .if2 .left)) (omega (arith, l, c .before .if3 .taken))))
 
 returns-4 : tie.Need-returns-4
 unfolding writtenOf
