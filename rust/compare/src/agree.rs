@@ -4,8 +4,9 @@ use crate::bases::{self, Base};
 use crate::gdal::{Feature, Field, Gdal};
 use crate::scratch::Scratch;
 use crate::sheets::{self, Record, Sheet, DEVICE};
-use crate::texts::decode;
+use crate::texts::{labels, shown};
 use crate::values::{value, Value};
+use sxf::Text;
 
 /// How many were held against each other, how many are the same, and the largest difference of those that are not.
 #[derive(Default)]
@@ -79,7 +80,8 @@ fn hold(sheet: &Sheet, record: &Record, feature: &Feature, row: &mut Row) {
         }
     }
     if record.localisation == 3 {
-        let lines: Vec<String> = record.parts.iter().map(|p| decode(sheet.coding, &p.text)).collect();
+        let lines: Vec<String> =
+            record.parts.iter().map(|p| shown(Text { coding: labels(sheet.coding), bytes: &p.text })).collect();
         match feature.field("TEXT") {
             Some(Field::Text(theirs)) => row.texts.text(&lines.join(" "), theirs),
             other => panic!("a label is {other:?}"),

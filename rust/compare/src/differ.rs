@@ -3,10 +3,10 @@
 use crate::child::{self, ask_gdal, End};
 use crate::scratch::Scratch;
 use crate::sheets::{self, Record, Sheet};
-use crate::texts::{decode, decode_wide, encode, encode_wide};
+use crate::texts::{coded, labels, shown};
 use crate::values::{value, Value};
 use crate::SETTING;
-use sxf::{ElementKind, Reference};
+use sxf::{Coding, ElementKind, Reference, Text};
 
 #[derive(Clone, Copy)]
 enum Look {
@@ -146,22 +146,22 @@ fn where_the_points_are() -> Vec<Case> {
 }
 
 fn what_labels_say() -> Vec<Case> {
-    let coded = |coding: u8| Sheet { coding, ..one(label(&encode(coding, "Москва"))) };
-    let unicode = label(&closed(&encode_wide("Москва"), 2)).more(Reference::UNICODE);
+    let moscow = |coding: u8| Sheet { coding, ..one(label(&coded(labels(coding), "Москва"))) };
+    let unicode = label(&closed(&coded(Coding::Utf16, "Москва"), 2)).more(Reference::UNICODE);
     let lines = Record::new(3, &[at(1.0, 2.0)]).part(&[at(3.0, 4.0)]).texts(&[b"one", b"two"]);
     vec![
         case(
             "a label in the DOS coding, +97 = 0",
             Look::Texts,
-            coded(0),
+            moscow(0),
             "000, table 1, note 5. GDAL reads it in the Windows coding",
         ),
-        case("a label in KOI-8, +97 = 2", Look::Texts, coded(2), "000, table 1, note 5. GDAL reads it in the Windows coding"),
+        case("a label in KOI-8, +97 = 2", Look::Texts, moscow(2), "000, table 1, note 5. GDAL reads it in the Windows coding"),
         case("a label in UTF-16", Look::Texts, one(unicode), "000, 2.1.4, and bit 4 of byte 21"),
         case(
             "a label in UTF-16 of Latin letters",
             Look::Texts,
-            one(label(&closed(&encode_wide("Gas 40"), 2)).more(Reference::UNICODE)),
+            one(label(&closed(&coded(Coding::Utf16, "Gas 40"), 2)).more(Reference::UNICODE)),
             "the same",
         ),
         case("a label of two lines", Look::Texts, one(lines), "000, 2.1.4: each line has its own text"),
@@ -175,7 +175,7 @@ fn what_labels_say() -> Vec<Case> {
 }
 
 fn what_items_say() -> Vec<Case> {
-    let moscow = encode_wide("Москва");
+    let moscow = coded(Coding::Utf16, "Москва");
     let double = 3.5f64.to_le_bytes();
     vec![
         case(
@@ -199,7 +199,7 @@ fn what_items_say() -> Vec<Case> {
         case(
             "type 127, Latin letters",
             Look::Values,
-            one(point().item(9, 127, 6, &closed(&encode_wide("Gas 40"), 2)).item(10, 2, 0, &[7, 0])),
+            one(point().item(9, 127, 6, &closed(&coded(Coding::Utf16, "Gas 40"), 2)).item(10, 2, 0, &[7, 0])),
             "000, note 1 to table 9",
         ),
         case(
@@ -249,7 +249,8 @@ fn ours(look: Look, sheet: &Sheet, bytes: &[u8]) -> String {
     };
     let text = |record: &Record| {
         let wide = record.more & Reference::UNICODE != 0;
-        let line = |bytes: &[u8]| child::quoted(&if wide { decode_wide(bytes) } else { decode(sheet.coding, bytes) });
+        let coding = if wide { Coding::Utf16 } else { labels(sheet.coding) };
+        let line = |bytes: &[u8]| child::quoted(&shown(Text { coding, bytes }));
         record.parts.iter().map(|p| line(&p.text)).collect::<Vec<_>>().join(" / ")
     };
     let items = |record: &Record| {

@@ -2,8 +2,7 @@
 //! with the coding that 000, table 9, names for their type.
 
 use crate::sheets::Item;
-use crate::texts::{decode, decode_wide};
-use sxf::{Coding, Text};
+use crate::texts::shown;
 
 #[derive(Clone, Debug, PartialEq)]
 pub enum Value {
@@ -14,18 +13,9 @@ pub enum Value {
 pub fn value(item: &Item) -> Value {
     let item = sxf::Item { code: item.code, kind: item.kind, scale: item.scale, bytes: &item.value };
     match item.value() {
-        sxf::Value::Text(text) => Value::Text(letters(text)),
+        sxf::Value::Text(text) => Value::Text(shown(text)),
         sxf::Value::Decimal { whole, power } => Value::Number(format!("{whole}e{power}").parse().expect("a decimal number")),
         sxf::Value::Double(number) => Value::Number(number.value().expect("a number")),
         sxf::Value::Unread => panic!("no sheet has {item:?}"),
-    }
-}
-
-fn letters(text: Text) -> String {
-    match text.coding {
-        Coding::Dos => decode(0, text.bytes),
-        Coding::Windows => decode(1, text.bytes),
-        Coding::Koi8 => decode(2, text.bytes),
-        Coding::Utf16 => decode_wide(text.bytes),
     }
 }
