@@ -34,8 +34,8 @@ pub enum Command {
     },
     /// Show a sheet, or one record of it, for people
     ///
-    /// Texts are shown in their characters, with their coding. A byte that has no character is shown as \\x98, and so is what would end or steer
-    /// the line: \\n, \\u{1b}.
+    /// Texts are shown in their characters, with their coding. A byte that has no character is shown as \x98, and so is what would end or steer
+    /// the line: \n, \u{1b}.
     Show {
         /// The sheet
         file: PathBuf,

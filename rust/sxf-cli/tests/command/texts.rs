@@ -1,5 +1,5 @@
 //! Texts: how they are shown, and how they stand in the JSON lines.
-use crate::run::{changed_in, is_told, on, out, sample, status, write, Folder};
+use crate::run::{changed_in, is_told, on, out, sample, status, sxf, write, Folder};
 use std::fs;
 use sxf::fields::passport;
 use sxf::{Head, Setting, TableRef};
@@ -347,4 +347,13 @@ fn lines_that_are_not_utf8_are_told() {
     let saved = [&table.as_bytes()[..place], b"\xC3\xE0\xE7", &table.as_bytes()[place..]].concat();
     let column = place - table[..place].rfind('\n').expect("a line before");
     is_told(&folder, 2, &saved, &format!("line 2: column {column}: byte 0xc3 is not UTF-8; save the lines as UTF-8"));
+}
+
+#[test]
+fn help_says_how_texts_stand() {
+    let help = |word: &str| out(&sxf(&[word, "--help"]).output().expect("sxf runs"));
+    assert!(help("show")
+        .contains(r"A byte that has no character is shown as \x98, and so is what would end or steer the line: \n, \u{1b}."));
+    assert!(help("table").contains("Print every text as bytes"));
+    assert!(help("write").contains("or as bytes (title_bytes, label_bytes, an item's scale and value)"));
 }
