@@ -3,7 +3,7 @@
 use mathlib.Core.Bool.{true, false}
 use mathlib.Core.List.{List, map}
 use mathlib.Core.Logic.{_↔_}
-use mathlib.Core.Path.{_≡_, sym, ap, _∙_}
+use mathlib.Core.Path.{_≡_, refl, sym, ap, _∙_}
 use Prim.Native.Nat.{ℕ, _<_, _≤_}
 use lib.ListN.{length, length-map, take}
 use native.Mathlib.Omega.{arith}
@@ -63,10 +63,10 @@ module _ (turn : ℕ → List ℕ → ℕ → Answer (List ℕ)) (coding : ℕ) 
   unfolding writtenOf
   refuses number place e = (w .0 ∙ ap writtenOf e, w .1 ∙ ap (λ a. lent theTurned a o) e)
 
-  -- what the definition gives, the call writes
-  gives : (ys : List ℕ) → turn coding xs (length o) ≡ given ys → (r ≡ Write.Length (length ys)) × (out ≡ over ys o)
+  -- what the definition gives, one by one, the call writes
+  gives : (f : ℕ → ℕ) → turn coding xs (length o) ≡ given (map f xs) → (r ≡ Write.Length (length xs)) × (out ≡ over (map f xs) o)
   unfolding writtenOf
-  gives ys e = (w .0 ∙ ap writtenOf e, w .1 ∙ ap (λ a. lent theTurned a o) e)
+  gives f e = (w .0 ∙ ap writtenOf e ∙ ap Write.Length (length-map xs f), w .1 ∙ ap (λ a. lent theTurned a o) e)
 
   -- NO CHARACTER is answered where the definition refuses so
   exactly : (P : ℕ → Type 0) → ((i : ℕ) → (turn coding xs (length o) ≡ refused NO-CHARACTER i 0) ↔ P i)
@@ -82,9 +82,7 @@ module _ (coding : ℕ) (text o out : List ℕ) (r : Written) (w : Turns toUtf16
   pub turned-there : labelCoding coding ≡ true → AllTurned (characterOf coding) noCharacter text → length text ≤ length o
       → (r ≡ Write.Length (length text)) × (out ≡ over (map (characterOf coding) text) o)
   turned-there good all room =
-      let units = map (characterOf coding) text in
-      let (is, left) = gives toUtf16 coding text o out r w units (Law.given-there coding text (length o) units .1 (good, all, room, λ i. units)) in
-      (is ∙ ap Write.Length (length-map text (characterOf coding)), left)
+      gives toUtf16 coding text o out r w (characterOf coding) (Law.given-there coding text (length o) _ .1 (good, all, room, refl))
 
   -- Any other coding is ASK;
   pub ask-there : labelCoding coding ≡ false → (r ≡ Write.Refused (refusal ASK 0 0)) × (out ≡ o)
@@ -105,9 +103,7 @@ module _ (coding : ℕ) (units o out : List ℕ) (r : Written) (w : Turns fromUt
   pub turned-back : labelCoding coding ≡ true → AllTurned (byteOf coding) noByte units → length units ≤ length o
       → (r ≡ Write.Length (length units)) × (out ≡ over (map (byteOf coding) units) o)
   turned-back good all room =
-      let text = map (byteOf coding) units in
-      let (is, left) = gives fromUtf16 coding units o out r w text (Law.given-back coding units (length o) text .1 (good, all, room, λ i. text)) in
-      (is ∙ ap Write.Length (length-map units (byteOf coding)), left)
+      gives fromUtf16 coding units o out r w (byteOf coding) (Law.given-back coding units (length o) _ .1 (good, all, room, refl))
 
   pub ask-back : labelCoding coding ≡ false → (r ≡ Write.Refused (refusal ASK 0 0)) × (out ≡ o)
   ask-back bad = refuses fromUtf16 coding units o out r w ASK 0 (Law.ask-back coding units (length o) bad)

@@ -10,7 +10,7 @@ use native.Mathlib.Omega.{arith}
 use Rattle.layout.specs.Answers.Calls.{lent}
 use Rattle.layout.specs.Answers.Enums.{writtenOf}
 use Rattle.layout.specs.Answers.Lent.{theTurned}
-use Rattle.layout.specs.Codings.Turning.{firstOf, lacks, turned}
+use Rattle.layout.specs.Codings.Turning.{turned}
 use Rattle.layout.specs.Walk.{given}
 use Rattle.layout.specs.declared.Refusal.{Refusal}
 use Rattle.layout.specs.declared.Written.{Written}

@@ -1,6 +1,6 @@
 -- What the code reads out of a coding's table and slots is what the definitions turn to: the guess of a character's slot is sound by the look
 -- into the table, and complete since the slots fit it (`fit`).
-use Prim.Native.Nat.{ℕ, zero, suc, _<_, _≤_, _%_}
+use Prim.Native.Nat.{ℕ, zero, suc, _<_, _≤_}
 use mathlib.Core.Bool.{Bool, true, false, cond, not, _||_}
 use mathlib.Core.List.{List, [], _∷_, map}
 use mathlib.Core.Logic.{_≢_}
@@ -38,10 +38,10 @@ map-same f g none law (x ∷ xs) h = go (eqb (f x) none) refl h (map-same f g no
     go false e h more = rw (law x (eqb-false _ _ e), more (omega arith))
 
 -- the characters that are put are the text's, where each byte has one
-pub characters-same : (c : ℕ) (t xs : List ℕ) (n : ℕ) → t ≡ tableOf c → n ≡ firstOf (lacks (characterOf c) noCharacter) xs → length xs ≤ n
+pub characters-same : (c : ℕ) (t xs : List ℕ) → t ≡ tableOf c → length xs ≤ firstOf (lacks (characterOf c) noCharacter) xs
     → map (readIn t) xs ≡ map (characterOf c) xs
-characters-same c t xs n e q h =
-    rw e (map-same (characterOf c) (readIn (tableOf c)) noCharacter (λ b has. read-byte c b (is-byte c b has)) xs (rw q at h))
+characters-same c t xs e h =
+    rw e (map-same (characterOf c) (readIn (tableOf c)) noCharacter (λ b has. read-byte c b (is-byte c b has)) xs h)
 
 -- slots that fit the table of a coding
 module _ (c : ℕ) (slots : List ℕ) (fits : fit (tableOf c) slots ≡ true) where
@@ -71,7 +71,7 @@ module _ (c : ℕ) (slots : List ℕ) (fits : fit (tableOf c) slots ≡ true) wh
       (rw (ne-eqb _ _ h) at (entry (λ byte character. eqb character noCharacter || eqb (guessIn slots character) byte) (tableOf c) noCharacter
       (parts .guessed) b (rw table-length (is-byte c b h))))
 
-  pub guess-byte : (u : ℕ) → byteOf c u ≢ noByte → guessIn slots u ≡ byteOf c u
+  guess-byte : (u : ℕ) → byteOf c u ≢ noByte → guessIn slots u ≡ byteOf c u
   guess-byte u h =
       let (is, un) = character-back c u h in
       rw is at (guess-back (byteOf c u) (rw is un))
@@ -103,12 +103,13 @@ module _ (c : ℕ) (slots : List ℕ) (fits : fit (tableOf c) slots ≡ true) wh
           absurd (eqb-false (characterOf c (guessIn slots u)) u d (rw (guess-byte u has) (character-back c u has .0)))
 
   -- a unit's guess is wrong exactly where it has no byte
-  pub misses-is : misses slots (tableOf c) ≡ lacks (byteOf c) noByte
+  misses-is : misses slots (tableOf c) ≡ lacks (byteOf c) noByte
   misses-is = fun-ext missed
 
   -- the guesses that are put are the bytes, where each unit has one
-  pub bytes-same : (xs : List ℕ) (n : ℕ) → n ≡ firstOf (lacks (byteOf c) noByte) xs → length xs ≤ n → map (guessIn slots) xs ≡ map (byteOf c) xs
-  bytes-same xs n q h = map-same (byteOf c) (guessIn slots) noByte guess-byte xs (rw q at h)
+  pub bytes-same : (xs : List ℕ) → length xs ≤ firstOf (lacks (byteOf c) noByte) xs → map (guessIn slots) xs ≡ map (byteOf c) xs
+  bytes-same = map-same (byteOf c) (guessIn slots) noByte guess-byte
 
+  -- so the first unit whose guess is wrong is the first without a byte
   pub first-same : (t xs : List ℕ) (n : ℕ) → t ≡ tableOf c → n ≡ firstOf (misses slots t) xs → n ≡ firstOf (lacks (byteOf c) noByte) xs
   first-same t xs n e q = q ∙ ap (λ t. firstOf (misses slots t) xs) e ∙ ap (λ test. firstOf test xs) misses-is

@@ -54,7 +54,7 @@ returns c =
     let told = after-n .n .given .1 in
     let every = whole (byteOf (coding m)) noByte (coding m) (units m) (text m) _ (is m) _ told .every in
     laid (byteOf (coding m)) noByte (coding m) (units m) (text m) _ (is m) _ told (guessIn (after-slots m .slots-of .result)) _
-    (bytes-same (coding m) (after-slots m .slots-of .result) (after-slots m .slots-of .ensures) (units m) _ refl every) (after-put .put .ensures)
+    (bytes-same (coding m) (after-slots m .slots-of .result) (after-slots m .slots-of .ensures) (units m) every) (after-put .put .ensures)
 
 returns-2 : tie.Need-returns-2
 returns-2 c =

@@ -49,7 +49,7 @@ returns c =
     let table = after-table .table-of .result in
     let every = whole (characterOf (coding m)) noCharacter (coding m) (text m) (units m) _ (is m) _ told .every in
     laid (characterOf (coding m)) noCharacter (coding m) (text m) (units m) _ (is m) _ told (readIn table) _
-    (characters-same (coding m) table (text m) _ (after-table .table-of .ensures) refl every) (after-put .put .ensures)
+    (characters-same (coding m) table (text m) (after-table .table-of .ensures) every) (after-put .put .ensures)
 
 returns-2 : tie.Need-returns-2
 returns-2 c =
