@@ -30,11 +30,24 @@ static void same(const char *what, const void *answer, const uint64_t *stated, s
 
 #define SAME(answer, ...) same(#answer, &(answer), (const uint64_t[]){ __VA_ARGS__ }, sizeof(answer) / 8)
 
-/* One record with numbers that all differ, of two parts and an item: 127,3 by type 2. */
-static const uint64_t table[] = { 9, 10, 11, 0x0202, 0x24, 12, 2, 1, 3, 0, 1, 0, 13, 2, 0xFF, 2 };
-static const uint64_t elements[] = { 21, 22, 23, 24, 25, 26, 27, 28 };
-static const uint8_t bytes[] = { 0xF9, 0x04 };
-enum { NUMBERS = 16, ELEMENTS = 8, BYTES = 2, LENGTH = 452 + 32 + 12 + 8 + 6 };
+/* One record with numbers that all differ, of three parts and two items: 127,3 by type 2, and 7 by type 1. */
+static const uint64_t table[] = {
+    9, 10, 11, 0x0202, 0x24, 12, 3, 2, 0,
+    4, 0, 1, 0, 1, 0,
+    13, 2, 0xFF, 2, 14, 1, 0, 1,
+};
+static const uint64_t elements[] = { 21, 22, 23, 24, 25, 26, 27, 28, 29, 30, 31, 32 };
+static const uint8_t bytes[] = { 0xF9, 0x04, 0x07 };
+enum {
+    NUMBERS = SXF_ROW_WIDTH + 3 * SXF_PART_WIDTH + 2 * SXF_ITEM_WIDTH,
+    ELEMENTS = 12,
+    BYTES = 3,
+    TOTAL = 32 + 16 + 8 + 8 + 6 + 5,
+    LENGTH = SXF_RECORDS_AT + TOTAL
+};
+
+/* The indices of its row's reference, word and mark. */
+enum { REFERENCE = 3, WORD = 5, MARK = 8 };
 
 static uint8_t sheet[LENGTH], rest[304];
 static const uint8_t carried[4] = { 3, 0, 0, 0 };
@@ -72,8 +85,8 @@ static void sheets(void)
     SAME(unfolded, 0, 0, 0, sum, 1, NUMBERS, ELEMENTS, BYTES);
     same("table", t, table, NUMBERS);
     same("elements", e, elements, ELEMENTS);
-    uint64_t pool[BYTES] = { b[0], b[1] };
-    SAME(pool, 0xF9, 0x04);
+    uint64_t pool[BYTES] = { b[0], b[1], b[2] };
+    SAME(pool, 0xF9, 0x04, 0x07);
     sxf_checked tight = sxf_unfold(sheet, LENGTH, 2017, t, NUMBERS, e, ELEMENTS, b, BYTES - 1);
     SAME(tight, SXF_ROOM, 3, 0, 0, 0, 0, 0, 0);
 }
@@ -83,17 +96,47 @@ static void records(void)
     uint64_t multi[NUMBERS];
     sxf_record first = sxf_record_at(sheet, LENGTH, 1999, 0), second = sxf_record_at(sheet, LENGTH, 1999, 1);
     sxf_record far = sxf_record_at(sheet, LENGTH, 1999, UINT64_C(1) << 32), last = sxf_record_at(sheet, LENGTH, 1999, UINT64_MAX);
-    SAME(first, 0, 0, 0, 452, 58, 9, 10, 11, 0x0202, 0x24, 12, 2, 1, 3);
-    SAME(second, SXF_ASK, 0, 0, 0, 0, 0, 0, 0, 0, 0, 0, 0, 0, 0);
-    SAME(far, SXF_ASK, 0, 0, 0, 0, 0, 0, 0, 0, 0, 0, 0, 0, 0);
-    SAME(last, SXF_ASK, 0, 0, 0, 0, 0, 0, 0, 0, 0, 0, 0, 0, 0);
+    SAME(first, 0, 0, 0, SXF_RECORDS_AT, TOTAL, 9, 10, 11, 0x0202, 0x24, 12, 3, 2, 0, 4);
+    /* the same by the names of its fields */
+    uint64_t row[SXF_ROW_WIDTH] = { first.code, first.in_group, first.group, first.reference, first.generalisation, first.word, first.parts,
+                                    first.items, first.mark };
+    uint64_t beside[] = { first.at, first.total, first.points };
+    same("row", row, table, SXF_ROW_WIDTH);
+    SAME(beside, SXF_RECORDS_AT, TOTAL, 4);
+    SAME(second, SXF_ASK, 0, 0, 0, 0, 0, 0, 0, 0, 0, 0, 0, 0, 0, 0);
+    SAME(far, SXF_ASK, 0, 0, 0, 0, 0, 0, 0, 0, 0, 0, 0, 0, 0, 0);
+    SAME(last, SXF_ASK, 0, 0, 0, 0, 0, 0, 0, 0, 0, 0, 0, 0, 0, 0);
     memcpy(multi, table, sizeof multi);
-    multi[3] |= 16;
+    multi[REFERENCE] |= 16;
     sxf_written early = written(2015, multi, LENGTH), made = written(2016, multi, LENGTH);
-    SAME(early, SXF_TOO_NEW, 3, 2016, 0);
+    SAME(early, SXF_TOO_NEW, REFERENCE, 2016, 0);
     SAME(made, 0, 0, 0, LENGTH);
     sxf_record new_bit = sxf_record_at(sheet, LENGTH, 2015, UINT64_MAX);
-    SAME(new_bit, SXF_TOO_NEW, 472, 2016, 0, 0, 0, 0, 0, 0, 0, 0, 0, 0, 0);
+    SAME(new_bit, SXF_TOO_NEW, 472, 2016, 0, 0, 0, 0, 0, 0, 0, 0, 0, 0, 0, 0);
+}
+
+/* The same record under the mark, where the word is the first part's points. */
+static void marks(void)
+{
+    uint64_t marked[NUMBERS], t[NUMBERS], e[ELEMENTS];
+    uint8_t b[BYTES];
+    memcpy(marked, table, sizeof marked);
+    marked[MARK] = 1;
+    sxf_written other_word = written(2017, marked, LENGTH);
+    SAME(other_word, SXF_COUNT, SXF_ROW_WIDTH, 0, 0);
+    marked[WORD] = 4;
+    sxf_written early = written(1999, marked, LENGTH), made = written(2004, marked, LENGTH);
+    SAME(early, SXF_TOO_NEW, MARK, 2004, 0);
+    SAME(made, 0, 0, 0, LENGTH);
+    sxf_record first = sxf_record_at(sheet, LENGTH, 2004, 0), too_new = sxf_record_at(sheet, LENGTH, 1999, 0);
+    SAME(first, 0, 0, 0, SXF_RECORDS_AT, TOTAL, 9, 10, 11, 0x0202, 0x24, 4, 3, 2, 1, 4);
+    SAME(too_new, SXF_TOO_NEW, 482, 2004, 0, 0, 0, 0, 0, 0, 0, 0, 0, 0, 0, 0);
+    sxf_checked unfolded = sxf_unfold(sheet, LENGTH, 2004, t, NUMBERS, e, ELEMENTS, b, BYTES);
+    SAME(unfolded, 0, 0, 0, sum_of(sheet, LENGTH), 1, NUMBERS, ELEMENTS, BYTES);
+    same("marked", t, marked, NUMBERS);
+    marked[MARK] = 2;
+    sxf_written no_mark = written(2017, marked, LENGTH);
+    SAME(no_mark, SXF_TABLE, MARK, 0, 0);
 }
 
 static void heads(void)
@@ -224,6 +267,7 @@ int main(void)
         rest[104 - 96 + 8 * i] = (uint8_t)(i + 1);
     sheets();
     records();
+    marks();
     heads();
     meanings();
     coordinates();

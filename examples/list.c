@@ -3,8 +3,8 @@
  *
  * It prints the lines of the program `listing`: length, sum and count of records, then for each record its number, place, total length,
  * code, number in group, group number, localisation, points of its first part and items; or REFUSED and the refusal. Between these stand
- * indented lines: the unit, and for each item its code, its type and its value. FILE may be as long as the library takes, where `listing`
- * stops at 65,536 bytes.
+ * indented lines: the unit, the mark of a record that has it, and for each item its code, its type and its value. FILE may be as long as the
+ * library takes, where `listing` stops at 65,536 bytes.
  *
  * Exit status: 0 listed and written back; 1 the sheet is refused, or COPY differs; 2 anything else, said on standard error.
  */
@@ -18,6 +18,9 @@
 enum { LISTED = 0, REFUSED = 1, FAILED = 2 };
 
 static const uint32_t YEAR = 2017;
+
+/* The numbers of a record's row that are looked at here, by their index. */
+enum { CODE = 0, IN_GROUP = 1, GROUP = 2, REFERENCE = 3, PARTS = 6, ITEMS = 7, MARK = 8 };
 
 /* A sheet's bytes, and its record table unfolded. */
 typedef struct {
@@ -111,7 +114,7 @@ static int print_unit(const char *path, const opened *o)
 }
 
 /* item has code, type, scale byte and the length of the value. A text is shown by its length, since its coding is the sheet's affair. */
-static void print_item(const uint64_t item[4], const uint8_t *value)
+static void print_item(const uint64_t item[SXF_ITEM_WIDTH], const uint8_t *value)
 {
     uint8_t kind = (uint8_t)item[1], scale = (uint8_t)item[2];
     printf("  item %" PRIu64 " type %u: ", item[0], kind);
@@ -131,21 +134,22 @@ static void print_item(const uint64_t item[4], const uint8_t *value)
     }
 }
 
-/* The table has a record's eight numbers, two for each part and four for each item. Where a record starts and how long it is, is not in
-   it: the first starts at 452, and its length stands 4 bytes after its start. (sxf_record_at answers both, but checks the whole sheet
-   for each record.) */
+/* The table has a record's row, then what each part and each item has. Where a record starts and how long it is, is not in it: the first
+   starts at 452, and its length stands 4 bytes after its start. (sxf_record_at answers both, but checks the whole sheet for each record.) */
 static void print_records(const opened *o)
 {
     const uint64_t *t = o->table;
     const uint8_t *b = o->bytes, *start = o->sheet + SXF_RECORDS_AT;
     for (uint64_t i = 0; i < o->sizes.records; i++) {
-        const uint64_t *parts = t + 8, *items = parts + 2 * t[6], *next = items + 4 * t[7];
+        const uint64_t *parts = t + SXF_ROW_WIDTH, *items = parts + SXF_PART_WIDTH * t[PARTS], *next = items + SXF_ITEM_WIDTH * t[ITEMS];
         uint64_t total = number_of(start + 4, 4);
         printf("%" PRIu64 " %td %" PRIu64 " %" PRIu64 " %" PRIu64 " %" PRIu64 " %" PRIu64 " %" PRIu64 " %" PRIu64 "\n", i, start - o->sheet, total,
-               t[0], t[1], t[2], t[3] % 16, parts[0], t[7]);
-        for (const uint64_t *part = parts; part < items; part += 2)
+               t[CODE], t[IN_GROUP], t[GROUP], t[REFERENCE] % 16, parts[0], t[ITEMS]);
+        if (t[MARK] == 1)
+            printf("  mark 65535\n");
+        for (const uint64_t *part = parts; part < items; part += SXF_PART_WIDTH)
             b += part[1];
-        for (const uint64_t *item = items; item < next; item += 4) {
+        for (const uint64_t *item = items; item < next; item += SXF_ITEM_WIDTH) {
             print_item(item, b);
             b += item[3];
         }

@@ -27,6 +27,11 @@
 #include <stdint.h>
 #include <string.h>
 
+/* The version of this header and of the archive that goes with it. It is raised where a program has to be changed or built again, and
+   docs/CHANGES.md says how. 2: a record's row has nine numbers, and sxf_record has the field mark. (Headers of rows of eight numbers have
+   no version.) */
+#define SXF_VERSION 2
+
 #ifdef __cplusplus
 extern "C" {
 #endif
@@ -44,7 +49,7 @@ enum {
     SXF_TOO_NEW = 8,      /* a feature is later than the year asked for; the answer's year is the feature's */
     SXF_NOT_CARRIED = 9,  /* a binding vector or graphics */
     SXF_LENGTH = 10,      /* a length is too small, does not fit or leaves bytes over */
-    SXF_COUNT = 11,       /* a count of points does not agree with the mark 65535 */
+    SXF_COUNT = 11,       /* a count of points does not agree with the record's mark, or under the mark with the word at +24 */
     SXF_SEMANTIC = 12,    /* an item's type, scale or length */
     SXF_LEFT_OVER = 13,   /* bytes after the last record */
     SXF_TABLE = 14,       /* a record table that is no table of a sheet (sxf_write), or a reference or bits too large (sxf_coordinate_of) */
@@ -81,23 +86,31 @@ typedef struct {
 /* Checks a sheet. */
 sxf_checked sxf_check(const uint8_t *sheet, size_t sheet_len, uint32_t year);
 
+/* How many numbers of the table a record has before those of its parts, and how many a part and an item have. */
+enum {
+    SXF_ROW_WIDTH = 9,
+    SXF_PART_WIDTH = 2,
+    SXF_ITEM_WIDTH = 4
+};
+
 /*
  * Checks a sheet and unfolds its record table into three outputs, which are as long as sxf_check answers, or longer.
  *
- * table has, for each record, eight numbers: code, number in group, group number, reference (the bytes +20 to +22 as one number, +20
- * lowest: its low four bits are the localisation), generalisation, the word at +24, parts, items; then for each part two: points, length
- * of its text; then for each item four: code, type, scale byte, length of its value. elements has the elements of all points as stored
- * bits: sxf_double makes a double of eight bytes' bits. bytes has, for each record, the texts of its parts without their closing zero, then
- * the values of its items with theirs.
+ * table has, for each record, SXF_ROW_WIDTH numbers: code, number in group, group number, reference (the bytes +20 to +22 as one number,
+ * +20 lowest: its low four bits are the localisation), generalisation, the word at +24, parts, items, mark; then for each part
+ * SXF_PART_WIDTH: points, length of its text; then for each item SXF_ITEM_WIDTH: code, type, scale byte, length of its value. The mark is
+ * 1 where the points at +30 are 65535: the word is then the first part's points, and a later part may have more than 65535. Else it is 0.
+ * elements has the elements of all points as stored bits: sxf_double makes a double of eight bytes' bits. bytes has, for each record, the
+ * texts of its parts without their closing zero, then the values of its items with theirs.
  */
 sxf_checked sxf_unfold(const uint8_t *sheet, size_t sheet_len, uint32_t year,
                        uint64_t *table, size_t table_len,
                        uint64_t *elements, size_t elements_len,
                        uint8_t *bytes, size_t bytes_len);
 
-/* A record: where it starts (at), its total length, the eight numbers of its row in the table, and the points of its first part. */
+/* A record: where it starts (at), its total length, the nine numbers of its row in the table, and the points of its first part. */
 typedef struct {
-    uint64_t number, place, year, at, total, code, in_group, group, reference, generalisation, word, parts, items, points;
+    uint64_t number, place, year, at, total, code, in_group, group, reference, generalisation, word, parts, items, mark, points;
 } sxf_record;
 
 /* The record of a number, from 0. After the sheet's own refusals a number that is not below the count of records is SXF_ASK. The whole
@@ -201,7 +214,9 @@ typedef struct {
 /*
  * Writes a sheet from its head and its record table, as sxf_head_of and sxf_unfold answer them. Texts are without a zero: the date is
  * at most 11 bytes, the others 31. rest has the 304 bytes from 96 on, carried the four from 444 on. The sum, the counts and all lengths
- * are computed. SXF_LIMIT bytes of out are always enough.
+ * are computed. A record needs mark 1 where its first part has 65535 points or more, or a later one more than 65535; any record may have it,
+ * and then its word is its first part's points. What goes against this is SXF_COUNT at a part's points. SXF_LIMIT bytes of out are always
+ * enough.
  */
 sxf_written sxf_write(uint32_t year,
                       const uint8_t *date, size_t date_len,
@@ -248,7 +263,7 @@ sxf_written sxf_from_utf16(uint32_t coding, const uint16_t *units, size_t units_
 #define SXF_SIZE(type, words) typedef char type##_has_no_padding[sizeof(type) == 8 * (words) ? 1 : -1]
 #endif
 SXF_SIZE(sxf_checked, 8);
-SXF_SIZE(sxf_record, 14);
+SXF_SIZE(sxf_record, 15);
 SXF_SIZE(sxf_head, 8);
 SXF_SIZE(sxf_unit, 5);
 SXF_SIZE(sxf_coordinate, 8);

@@ -48,6 +48,7 @@ fn record(r: RecordAt) {
     number(r.word as u64);
     number(r.parts as u64);
     number(r.items as u64);
+    number(r.mark as u64);
     number(r.points as u64);
 }
 

@@ -1,6 +1,6 @@
 // Numbers of a record that more than one field of its header says. (01, Record)
 ghost use mathlib.Core.Path.{_≡_};
-ghost use Rattle.layout.specs.Shared.Mark.{firstCount};
+ghost use Rattle.layout.specs.Shared.Mark.{firstCount, markOf};
 ghost use Rattle.layout.specs.Shared.Row.{referenceNumber, referenceOf};
 use layout::sheet;
 
@@ -12,6 +12,16 @@ pub fn first_count(points: u16, word: u32) -> u32
         return word;
     }
     points as u32
+}
+
+// The mark as the table has it, by the points at +30.
+pub fn mark_of(points: u16) -> u8
+    ensures { λ r. ⌜ r ≡ markOf points ⌝ }
+{
+    if points == sheet::MARK {
+        return 1;
+    }
+    0
 }
 
 // The three reference bytes as one number, as the table has them.

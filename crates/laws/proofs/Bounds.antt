@@ -65,7 +65,7 @@ label-fits true t f = omega arith
 label-fits false t f = rw f (omega arith)
 
 -- what a record has of each output, against its bytes
-row-numbers : (r : Record) → NearRecord r → rowNumbers r + 22 ≤ recordBytes r
+row-numbers : (r : Record) → NearRecord r → rowNumbers r + 21 ≤ recordBytes r
 unfolding recordBytes
 row-numbers r n =
     let ref : Reference = r .reference in
@@ -99,16 +99,16 @@ row-bytes r n =
     sum-le FineItem (λ i. length (i .value)) itemBytes (λ i f. omega arith) (r .items) (n .items) in
     omega (arith, first, later, items)
 
--- The three outputs of unfolding, against the sheet's length: a record takes 22 bytes more than it has numbers, 32 more than twice its
+-- The three outputs of unfolding, against the sheet's length: a record takes 21 bytes more than it has numbers, 32 more than twice its
 -- elements, and 32 more than it has bytes in the pool.
-pub numbers-bound : (u : Sheet) → Fine u → start + length (flatten (u .records) .numbers) + length (u .records) * 22 ≤ length (encode u)
+pub numbers-bound : (u : Sheet) → Fine u → start + length (flatten (u .records) .numbers) + length (u .records) * 21 ≤ length (encode u)
 numbers-bound u f =
     let near = all-near (u .records) (f .records) in
     omega (
       arith,
       encode-length u (f .head) near,
       flatten-sizes (u .records) near .0,
-      sum-over NearRecord 22 rowNumbers recordBytes row-numbers (u .records) near,
+      sum-over NearRecord 21 rowNumbers recordBytes row-numbers (u .records) near,
     )
 
 pub elements-bound : (u : Sheet) → Fine u → start + 2 * length (flatten (u .records) .elements) + length (u .records) * 32 ≤ length (encode u)

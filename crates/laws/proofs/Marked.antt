@@ -44,16 +44,16 @@ cases =
     -- "With sum 796: SUM, 12. First 451 bytes: SHORT, 0."
     ∷ reads 2017 (sheet 796 0 []) (refused SUM 12 0)
     ∷ reads 2017 (take 451 sheetE) (refused SHORT 0 0)
-    -- P: "sum 1865. Table 0, 0, 0, 2, 255, 0, 1, 0, 1, 0; elements 3, 4."
+    -- P: "sum 1865. Table 0, 0, 0, 2, 255, 0, 1, 0, 1, 0; elements 3, 4.", with a mark of 0 after items (02, request 2)
     ∷ measures sheetP 488 1865
-    ∷ reads 2017 sheetP (given (table (0 ∷ 0 ∷ 0 ∷ 2 ∷ 255 ∷ 0 ∷ 1 ∷ 0 ∷ 1 ∷ 0 ∷ []) (3 ∷ 4 ∷ []) []))
+    ∷ reads 2017 sheetP (given (table (0 ∷ 0 ∷ 0 ∷ 2 ∷ 255 ∷ 0 ∷ 1 ∷ 0 ∷ 0 ∷ 1 ∷ 0 ∷ []) (3 ∷ 4 ∷ []) []))
     -- Q: "494 bytes, sum 2384"
     ∷ measures sheetQ 494 2384
-    ∷ reads 2017 sheetQ (given (table (0 ∷ 0 ∷ 0 ∷ 514 ∷ 255 ∷ 0 ∷ 1 ∷ 1 ∷ 1 ∷ 0 ∷ 1 ∷ 2 ∷ 255 ∷ 2 ∷ []) (3 ∷ 4 ∷ []) (0xF9 ∷ 0x04 ∷ [])))
+    ∷ reads 2017 sheetQ (given (table (0 ∷ 0 ∷ 0 ∷ 514 ∷ 255 ∷ 0 ∷ 1 ∷ 1 ∷ 0 ∷ 1 ∷ 0 ∷ 1 ∷ 2 ∷ 255 ∷ 2 ∷ []) (3 ∷ 4 ∷ []) (0xF9 ∷ 0x04 ∷ [])))
     -- "P with byte 472 = 18, sum 1881: setting 2015 TOO NEW, 472, 2016; 2016 accepted. Setting 2005: ASK."
     ∷ measures sheetM 488 1881
     ∷ reads 2015 sheetM (refused TOO-NEW 472 2016)
-    ∷ reads 2016 sheetM (given (table (0 ∷ 0 ∷ 0 ∷ 18 ∷ 255 ∷ 0 ∷ 1 ∷ 0 ∷ 1 ∷ 0 ∷ []) (3 ∷ 4 ∷ []) []))
+    ∷ reads 2016 sheetM (given (table (0 ∷ 0 ∷ 0 ∷ 18 ∷ 255 ∷ 0 ∷ 1 ∷ 0 ∷ 0 ∷ 1 ∷ 0 ∷ []) (3 ∷ 4 ∷ []) []))
     ∷ reads 2005 sheetP (refused ASK 0 0)
     -- "Designation of 31 is written, of 32 TEXT, 28."
     ∷ writes 2017 (headOf (replicate 31 0x41)) (table [] [] []) (given (with 28 (replicate 31 0x41) (sheet 2745 0 [])))

@@ -41,7 +41,8 @@ NOT-CARRIED = 9
 abbrev pub LENGTH : ℕ
 LENGTH = 10
 
--- the word at +24 is too small under the mark; N1 is not 0 without it
+-- "11 now stands only for N1 not zero without the mark and, in the writer, for mark 0 with a first count of 65535 or more or a later count
+-- over 65535, and for mark 1 with a word that differs from the first count" (02, request 2)
 abbrev pub COUNT : ℕ
 COUNT = 11
 

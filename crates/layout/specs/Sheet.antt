@@ -29,6 +29,8 @@ pub record Record : Type 0 where
   pub generalisation : ℕ
   -- the word at +24
   pub word : ℕ
+  -- "mark 0 or 1" (02, request 2)
+  pub mark : ℕ
   pub first : Part
   pub subobjects : List Part
   pub items : List Item

@@ -41,7 +41,7 @@ pub enum Checked {
     Refused(Refusal),
 }
 
-// One record: where it starts, its total length, its eight numbers, and its first part's points.
+// One record: where it starts, its total length, its nine numbers, and its first part's points.
 pub struct RecordAt {
     pub place: usize,
     pub total: usize,
@@ -53,6 +53,7 @@ pub struct RecordAt {
     pub word: u32,
     pub parts: u32,
     pub items: usize,
+    pub mark: u8,
     pub points: u32,
 }
 

@@ -15,8 +15,10 @@ pub const PARTS: usize = 6;
 
 pub const ITEMS: usize = 7;
 
+pub const MARK: usize = 8;
+
 // how many numbers a record has before those of its parts
-pub const WIDTH: usize = 8;
+pub const WIDTH: usize = 9;
 
 // of a part
 pub const POINTS: usize = 0;
@@ -37,12 +39,12 @@ pub const ITEM_LENGTH: usize = 3;
 pub const ITEM_WIDTH: usize = 4;
 
 // the first part's points, counted from the record's first number; and how many numbers a record with one part has
-pub const FIRST_POINTS: usize = 8;
+pub const FIRST_POINTS: usize = 9;
 
-pub const WITH_FIRST: usize = 10;
+pub const WITH_FIRST: usize = 11;
 
 // the widths as numbers of the table are counted
-pub const WIDTH_U64: u64 = 8;
+pub const WIDTH_U64: u64 = 9;
 
 pub const PART_WIDTH_U64: u64 = 2;
 

@@ -16,9 +16,7 @@ pub const START: usize = 452;
 // "Points 65535 is a mark"
 pub const MARK: u16 = 65535;
 
-// the same at other widths
-pub const MARK_U32: u32 = 65535;
-
+// the same as a number of the table
 pub const MARK_U64: u64 = 65535;
 
 // How many bytes of passport and descriptor stand after the sum.

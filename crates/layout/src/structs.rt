@@ -38,6 +38,7 @@ pub struct SxfRecord {
     pub word: u64,
     pub parts: u64,
     pub items: u64,
+    pub mark: u64,
     pub points: u64,
 }
 

@@ -7,8 +7,8 @@ use Rattle.layout.specs.Bytes.{numberIn}
 use Rattle.layout.specs.Fields.Header as Field
 use Rattle.layout.specs.Reading.Records.{Header}
 use Rattle.layout.specs.Reading.Sheets.{sheetWalk}
-use Rattle.layout.specs.Shared.Mark.{firstCount}
-use Rattle.layout.specs.Shared.Row.{referenceNumber}
+use Rattle.layout.specs.Shared.Mark.{firstCount, markOf}
+use Rattle.layout.specs.Shared.Row.{referenceNumber, rowSize, partWidth, itemWidth}
 use Rattle.layout.specs.Sheet.{Sheet}
 use Rattle.layout.specs.Walk.{given, answer, upTo}
 use Rattle.layout.specs.declared.RecordAt.{RecordAt}
@@ -40,6 +40,7 @@ recordBy place count h =
       generalisation = h .generalisation;
       word = h .word;
       parts = 1 + h .subobjects;
-      items = (count - (10 + 2 * h .subobjects)) / 4;
+      items = (count - (rowSize 1 0 + partWidth * h .subobjects)) / itemWidth;
+      mark = markOf (h .points);
       points = firstCount (h .points) (h .word);
     }

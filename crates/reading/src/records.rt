@@ -1,5 +1,5 @@
 // A record asked for by its number, from 0. (01, The record table: "answers place, total length, its eight numbers and its first part's
-// points")
+// points"; the numbers are nine since request 2 of document 02)
 ghost use mathlib.Core.Path.{_≡_};
 ghost use Prim.Native.Nat.{_+_, _-_, _*_, _/_, _≤_};
 ghost use lib.ListN.{length};
@@ -16,6 +16,7 @@ use crate::sheets::check_by_year;
 use fields::headers::header_at;
 use fields::numbers;
 use fields::records::first_count;
+use fields::records::mark_of;
 use fields::records::reference_number;
 use layout::Checked;
 use layout::Found;
@@ -42,7 +43,7 @@ fn place_of(s: &[u8], number: u64) -> usize
     at
 }
 
-// How many items a record has, by its count of numbers: eight, two for each part, four for each item.
+// How many items a record has, by its count of numbers: nine, two for each part, four for each item.
 fn items_of(numbers: usize, subobjects: u16) -> usize
     ensures { λ r. ⌜ r ≡ (numbers - (rowSize 1 0 + partWidth * subobjects)) / itemWidth ⌝ }
 {
@@ -70,6 +71,7 @@ fn record_by(xs: &[u8], place: usize, count: usize) -> RecordAt
         word: h.word,
         parts: 1 + (h.subobjects as u32),
         items: items_of(count, h.subobjects),
+        mark: mark_of(h.points),
         points: first_count(h.points, h.word),
     }
 }

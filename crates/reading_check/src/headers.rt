@@ -12,7 +12,6 @@ use fields::steps::Step;
 use fields::steps::demand;
 use fields::steps::feature;
 use layout::header;
-use layout::refusals::COUNT;
 use layout::refusals::LENGTH;
 use layout::refusals::NOT_SXF;
 use layout::refusals::SHORT;
@@ -57,12 +56,5 @@ pub fn check_header(h: Header, p: usize, left: usize, year: u32) -> Step
         year,
     );
     let marked = h.points == sheet::MARK;
-    let a = feature(a, marked, years::MARK_65535, p, header::POINTS, year);
-    demand(
-        a,
-        !marked | (sheet::MARK_U32 <= h.word),
-        COUNT,
-        p,
-        header::WORD,
-    )
+    feature(a, marked, years::MARK_65535, p, header::POINTS, year)
 }

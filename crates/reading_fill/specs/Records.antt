@@ -10,8 +10,8 @@ use Rattle.reading_fill.specs.declared.cursors.Cursor.{Cursor}
 use Rattle.fields.specs.declared.shapes.Shape.{Shape}
 use Rattle.layout.specs.Bytes.{numberIn}
 use Rattle.layout.specs.Fields.Header as Field
-use Rattle.layout.specs.Reading.Records.{Header, headerIn, metricIn, semanticsIn}
-use Rattle.layout.specs.Shared.Mark.{firstCount}
+use Rattle.layout.specs.Reading.Records.{Header, headerIn, metricIn, semanticsIn, recordFrom}
+use Rattle.layout.specs.Shared.Mark.{firstCount, markOf}
 use Rattle.layout.specs.Shared.Row.{referenceNumber}
 use Rattle.layout.specs.Sheet.{Part, Record, Table}
 use Rattle.layout.specs.Writing.Tables.{join, joined, flattenPart, flattenItem}
@@ -28,17 +28,7 @@ laterIn s count n ys = subobjectsIn s n (drop (partSize s count ys) ys)
 
 unfoldable pub recordOf : Header → List ℕ → List ℕ → Record
 recordOf h metric after =
-    record {
-      code = h .code;
-      inGroup = h .inGroup;
-      group = h .group;
-      reference = h .reference;
-      generalisation = h .generalisation;
-      word = h .word;
-      first = partIn (shapeIn h) (firstIn h) metric;
-      subobjects = laterIn (shapeIn h) (firstIn h) (h .subobjects) metric;
-      items = itemsIn after;
-    }
+    recordFrom h (record { first = partIn (shapeIn h) (firstIn h) metric; second = laterIn (shapeIn h) (firstIn h) (h .subobjects) metric }) (itemsIn after)
 
 abbrev pub recordIn : List ℕ → Record
 recordIn xs = recordOf (headerIn xs) (metricIn (headerIn xs) xs) (semanticsIn (headerIn xs) xs)
@@ -60,10 +50,10 @@ metricSize s count n ys = partSize s count ys + subobjectsSize s n (drop (partSi
 unfoldable pub metricTable : Shape → ℕ → ℕ → List ℕ → Table
 metricTable s count n ys = join (flattenPart (partIn s count ys)) (joined flattenPart (laterIn s count n ys))
 
--- the eight numbers of a record with so many items
+-- the nine numbers of a record with so many items
 unfoldable pub rowOf : Header → ℕ → List ℕ
 rowOf h items =
-    h .code ∷ h .inGroup ∷ h .group ∷ referenceNumber (h .reference) ∷ h .generalisation ∷ h .word ∷ (1 + h .subobjects) ∷ items ∷ []
+    h .code ∷ h .inGroup ∷ h .group ∷ referenceNumber (h .reference) ∷ h .generalisation ∷ h .word ∷ (1 + h .subobjects) ∷ items ∷ markOf (h .points) ∷ []
 
 -- the same of the record that xs start with and whose header is h; and of its items
 abbrev pub partsSizeIn : Header → List ℕ → ℕ

@@ -1,4 +1,4 @@
-// A record: its eight numbers, its parts, its items. The eight numbers are written last, since only then the items are counted.
+// A record: its nine numbers, its parts, its items. The nine numbers are written last, since only then the items are counted.
 ghost use mathlib.Core.List.{[]};
 ghost use mathlib.Core.Path.{_≡_};
 ghost use Prim.Native.Nat.{_+_, _≤_, _<_, _^_};
@@ -99,7 +99,7 @@ fn record_items(xs: &[u8], h: Header, c: Cursor, table: &mut [u64], bytes: &mut 
     items::fill_items(ys, d, table, bytes)
 }
 
-// Fills a record: its parts, its items, and last its eight numbers.
+// Fills a record: its parts, its items, and last its nine numbers.
 pub fn fill_record(
     xs: &[u8],
     c: Cursor,

@@ -1,4 +1,4 @@
-// Rows of the record table: the two numbers of a part, the four of an item, and the eight of a record.
+// Rows of the record table: the two numbers of a part, the four of an item, and the nine of a record.
 ghost use mathlib.Core.List.{[], _∷_};
 ghost use mathlib.Core.Path.{_≡_};
 ghost use Prim.Native.Nat.{_+_, _≤_};
@@ -8,6 +8,7 @@ ghost use Rattle.layout.specs.Shared.Row.{rowWidth, partWidth, itemWidth};
 ghost use lib.ListN.{length};
 ghost use lib.Seq.{sets};
 use fields::headers::Header;
+use fields::records::mark_of;
 use fields::records::reference_number;
 use layout::row;
 
@@ -29,7 +30,7 @@ pub fn put_item(out: &mut [u64], w: usize, code: u16, kind: u8, scale: u8, value
     out[w + row::ITEM_LENGTH] = value as u64;
 }
 
-// The eight numbers of a record, by its header and its count of items.
+// The nine numbers of a record, by its header and its count of items.
 pub fn put_record(out: &mut [u64], w: usize, h: Header, items: usize)
     requires { ⌜ w + rowWidth ≤ length (now out) ⌝ }
     ensures { λ _. ⌜ now (out .exit) ≡ sets (now (out .entry)) w (rowOf (headerOf h) items) ⌝ }
@@ -42,4 +43,5 @@ pub fn put_record(out: &mut [u64], w: usize, h: Header, items: usize)
     out[w + row::WORD] = h.word as u64;
     out[w + row::PARTS] = 1 + (h.subobjects as u64);
     out[w + row::ITEMS] = items as u64;
+    out[w + row::MARK] = mark_of(h.points) as u64;
 }

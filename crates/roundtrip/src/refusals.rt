@@ -8,6 +8,7 @@ use layout::Refusal;
 use layout::Written;
 use layout::passport;
 use layout::refusals::RESERVED;
+use layout::refusals::TABLE;
 use layout::refusals::TEXT;
 use layout::refusals::TOO_NEW;
 use layout::row;
@@ -15,10 +16,10 @@ use layout::years;
 use meanings::setting::Setting;
 use writing::sheets::write;
 
-// The row of a point at 3, 4, as in P, with reference bytes of its own.
-fn tried(name: &[u8], designation: &[u8], reference: u64, at: Setting, stated: Refusal) {
+// The row of a point at 3, 4, as in P, with reference bytes and a mark of its own. The word at +24 is 1, as many points as it has.
+fn tried(name: &[u8], designation: &[u8], reference: u64, mark: u64, at: Setting, stated: Refusal) {
     let rest = plain_rest();
-    let table = [0, 0, 0, reference, 255, 0, 1, 0, 1, 0];
+    let table = [0, 0, 0, reference, 255, 1, 1, 0, mark, 1, 0];
     let mut out = [FILL_BYTE; 1024];
     let answered = write(
         b"",
@@ -61,6 +62,7 @@ pub fn all() {
         b"designation of 32",
         long,
         2,
+        0,
         Setting::Y2017,
         refusal(TEXT, passport::DESIGNATION, 0),
     );
@@ -69,6 +71,7 @@ pub fn all() {
         b"spline",
         b"A",
         4194306,
+        0,
         Setting::Y1999,
         refusal(TOO_NEW, row::REFERENCE, years::SPLINE_BITS),
     );
@@ -76,7 +79,25 @@ pub fn all() {
         b"localisation 6",
         b"A",
         6,
+        0,
         Setting::Y2017,
         refusal(RESERVED, row::REFERENCE, 0),
+    );
+    // The mark at the setting 1999, and a mark that is none.
+    tried(
+        b"mark",
+        b"A",
+        2,
+        1,
+        Setting::Y1999,
+        refusal(TOO_NEW, row::MARK, years::MARK_65535),
+    );
+    tried(
+        b"mark 2",
+        b"A",
+        2,
+        2,
+        Setting::Y2017,
+        refusal(TABLE, row::MARK, 0),
     );
 }

@@ -127,4 +127,6 @@ pub fn all() {
     sample(b"heights.sxf", Setting::Y2017);
     sample(b"items.sxf", Setting::Y2017);
     sample(b"dated.sxf", Setting::Y2017);
+    sample(b"mark-small.sxf", Setting::Y2004);
+    sample(b"mark-small.sxf", Setting::Y2017);
 }

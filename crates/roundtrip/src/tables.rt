@@ -85,7 +85,7 @@ fn tried(name: &[u8], table: &[u64], elements: &[u64], bytes: &[u8], at: Setting
 
 // Two labels with an item each: reference bytes 3, 2 and 8. The first has a subobject whose text is empty, and every number of its
 // header set; the second has an item of type 0, whose value is "A" and its closing zero.
-const LABELS: [u64; 30] = [
+const LABELS: [u64; 32] = [
     // The first record, its two parts, its item.
     91000000,
     7,
@@ -95,6 +95,7 @@ const LABELS: [u64; 30] = [
     10,
     2,
     1,
+    0,
     1,
     2,
     2,
@@ -112,6 +113,7 @@ const LABELS: [u64; 30] = [
     0,
     1,
     1,
+    0,
     2,
     3,
     20,
@@ -136,6 +138,7 @@ fn two_splines(at: Setting) {
         0,
         1,
         0,
+        0,
         3,
         0,
         2,
@@ -148,6 +151,7 @@ fn two_splines(at: Setting) {
         0,
         0,
         0,
+        0,
     ];
     let elements = [1, 2, 70000, 4, 5, 0xFFFFFFFF];
     tried(b"two splines", &table, &elements, b"", at);
@@ -155,7 +159,7 @@ fn two_splines(at: Setting) {
 
 // A point of three doubles with an item of type 128, which is of 2012: reference bytes 2, 6 and 6.
 fn long_value(at: Setting) {
-    let table = [3, 0, 0, 394754, 255, 0, 1, 1, 1, 0, 8, 128, 255, 4];
+    let table = [3, 0, 0, 394754, 255, 0, 1, 1, 0, 1, 0, 8, 128, 255, 4];
     let elements = [0x3FF0000000000000, 0x4000000000000000, 0x4008000000000000];
     tried(b"long value", &table, &elements, b"A\0\0\0", at);
 }
@@ -176,8 +180,16 @@ fn varied() -> [u64; 8000] {
 // A line of 4,000 points, of two doubles each: reference bytes 0, 4 and 4.
 fn long_line(at: Setting) {
     let elements = varied();
-    let table = [4, 0, 0, 263168, 255, 0, 1, 0, 4000, 0];
+    let table = [4, 0, 0, 263168, 255, 0, 1, 0, 0, 4000, 0];
     tried(b"long line", &table, &elements, b"", at);
+}
+
+// A shore of two points with an island of three, under the mark, which is of 2004: reference bytes 1, 0 and 0. The word is the first
+// count.
+fn shore(at: Setting) {
+    let table = [5, 0, 0, 1, 255, 2, 2, 0, 1, 2, 0, 3, 0];
+    let elements = [1, 2, 3, 4, 5, 6, 7, 8, 9, 10];
+    tried(b"shore", &table, &elements, b"", at);
 }
 
 pub fn all() {
@@ -192,4 +204,6 @@ pub fn all() {
     long_value(Setting::Y2017);
     long_line(Setting::Y1999);
     long_line(Setting::Y2017);
+    shore(Setting::Y2004);
+    shore(Setting::Y2017);
 }

@@ -25,6 +25,7 @@ fn record_row(f: Found) -> SxfRecord
             word: x.word as u64,
             parts: x.parts as u64,
             items: x.items as u64,
+            mark: x.mark as u64,
             points: x.points as u64,
         },
         Found::Refused(r) => SxfRecord {
@@ -41,6 +42,7 @@ fn record_row(f: Found) -> SxfRecord
             word: 0,
             parts: 0,
             items: 0,
+            mark: 0,
             points: 0,
         },
     }

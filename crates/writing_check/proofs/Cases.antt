@@ -24,23 +24,23 @@ stop number place year = Refused (refusal number place year)
 
 -- the numbers of P and of Q
 abbrev p : List ℕ
-p = 0 ∷ 0 ∷ 0 ∷ 2 ∷ 255 ∷ 0 ∷ 1 ∷ 0 ∷ 1 ∷ 0 ∷ []
+p = 0 ∷ 0 ∷ 0 ∷ 2 ∷ 255 ∷ 0 ∷ 1 ∷ 0 ∷ 0 ∷ 1 ∷ 0 ∷ []
 
 abbrev q : List ℕ
-q = 0 ∷ 0 ∷ 0 ∷ 514 ∷ 255 ∷ 0 ∷ 1 ∷ 1 ∷ 1 ∷ 0 ∷ 1 ∷ 2 ∷ 255 ∷ 2 ∷ []
+q = 0 ∷ 0 ∷ 0 ∷ 514 ∷ 255 ∷ 0 ∷ 1 ∷ 1 ∷ 0 ∷ 1 ∷ 0 ∷ 1 ∷ 2 ∷ 255 ∷ 2 ∷ []
 
 -- a row with so many parts and items, and no more numbers than P has
 abbrev calls : ℕ → ℕ → List ℕ
-calls parts items = 0 ∷ 0 ∷ 0 ∷ 2 ∷ 255 ∷ 0 ∷ parts ∷ items ∷ 1 ∷ 0 ∷ []
+calls parts items = 0 ∷ 0 ∷ 0 ∷ 2 ∷ 255 ∷ 0 ∷ parts ∷ items ∷ 0 ∷ 1 ∷ 0 ∷ []
 
 cases : (taken 2017 [] [] [] ≡ fine 0 0) × (taken 2017 p (3 ∷ 4 ∷ []) [] ≡ fine 36 1) × (taken 2017 q (3 ∷ 4 ∷ []) (249 ∷ 4 ∷ []) ≡ fine 42 1)
     × (taken 2017 (p ++ q) (3 ∷ 4 ∷ 5 ∷ 6 ∷ []) (249 ∷ 4 ∷ []) ≡ fine 78 2)
     -- a pool left over, a pool that ends early, an element too wide, in the second row
-    × (taken 2017 (p ++ p) (3 ∷ 4 ∷ 5 ∷ 6 ∷ 7 ∷ []) [] ≡ stop TABLE 20 0) × (taken 2017 (p ++ p) (3 ∷ 4 ∷ 5 ∷ 6 ∷ []) (7 ∷ []) ≡ stop TABLE 20 0)
-    × (taken 2017 (p ++ p) (3 ∷ 4 ∷ 5 ∷ []) [] ≡ stop TABLE 18 0) × (taken 2017 (p ++ p) (3 ∷ 4 ∷ 5 ∷ 65536 ∷ []) [] ≡ stop TABLE 18 0)
+    × (taken 2017 (p ++ p) (3 ∷ 4 ∷ 5 ∷ 6 ∷ 7 ∷ []) [] ≡ stop TABLE 22 0) × (taken 2017 (p ++ p) (3 ∷ 4 ∷ 5 ∷ 6 ∷ []) (7 ∷ []) ≡ stop TABLE 22 0)
+    × (taken 2017 (p ++ p) (3 ∷ 4 ∷ 5 ∷ []) [] ≡ stop TABLE 20 0) × (taken 2017 (p ++ p) (3 ∷ 4 ∷ 5 ∷ 65536 ∷ []) [] ≡ stop TABLE 20 0)
     -- numbers that are not there, with counts near 2^64; a row cut short; no part
     × (taken 2017 (calls (2 ^ 63) 0) (3 ∷ 4 ∷ []) [] ≡ stop TABLE 0 0) × (taken 2017 (calls (2 ^ 64 - 1) (2 ^ 64 - 1)) (3 ∷ 4 ∷ []) [] ≡ stop TABLE 0 0)
-    × (taken 2017 (calls 1 (2 ^ 62)) (3 ∷ 4 ∷ []) [] ≡ stop TABLE 0 0) × (taken 2017 (p ++ (0 ∷ [])) (3 ∷ 4 ∷ []) [] ≡ stop TABLE 10 0)
+    × (taken 2017 (calls 1 (2 ^ 62)) (3 ∷ 4 ∷ []) [] ≡ stop TABLE 0 0) × (taken 2017 (p ++ (0 ∷ [])) (3 ∷ 4 ∷ []) [] ≡ stop TABLE 11 0)
     × (taken 2017 (calls 0 0) (3 ∷ 4 ∷ []) [] ≡ stop TABLE 6 0)
 unfolding computing recordBytes
 cases = (refl, refl, refl, refl, refl, refl, refl, refl, refl, refl, refl, refl, refl)

@@ -1,4 +1,4 @@
--- A record's row in two steps: its eight numbers, and what stands inside it.
+-- A record's row in two steps: its nine numbers, and what stands inside it.
 use mathlib.Core.List.{List, [], _∷_, _++_}
 use Prim.Native.Nat.{ℕ, _+_}
 use lib.Dec.{leb}
@@ -24,9 +24,10 @@ rowOf a =
       word = a .word;
       parts = a .parts;
       items = a .items;
+      mark = a .mark;
     }
 
--- the checks on a row of which at least eight numbers are left
+-- the checks on a row of which at least nine numbers are left
 abbrev pub allRules : RecordRow → ℕ → List Check
 allRules a left =
     (must (leb (Index.rowSize (a .parts) (a .items)) left) TABLE 0 ∷ [])

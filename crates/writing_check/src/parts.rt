@@ -8,6 +8,7 @@ ghost use Rattle.fields.specs.declared.steps.Step.the-variants.{Fine};
 ghost use Rattle.layout.specs.Fields.Subobject;
 ghost use Rattle.layout.specs.Fields.{limit};
 ghost use Rattle.layout.specs.Layout.Sizes.{sumBy, partBytes, subobjectBytes};
+ghost use Rattle.layout.specs.Shared.Mark.{goodFirst};
 ghost use Rattle.layout.specs.Shared.Row.{referenceOf, partWidth};
 ghost use Rattle.layout.specs.Walk.{answer, upTo};
 ghost use Rattle.layout.specs.Writing.Parts.{firstRules, laterRules, takePart};
@@ -22,20 +23,28 @@ use fields::shapes;
 use fields::shapes::Shape;
 use fields::steps::Step;
 use fields::steps::demand;
-use fields::steps::feature;
 use layout::bounds;
 use layout::refusals::COUNT;
 use layout::refusals::TABLE;
 use layout::row;
 use layout::sheet;
 use layout::subobject;
-use layout::years;
 
-// The rules on the first part's points, beside the word at +24.
-fn first_rules(word: u64, points: u64, place: usize, year: u32) -> Step
-    ensures { λ r. ⌜ Next Fine year place (firstRules word points) r ⌝ }
+// Whether a first count goes with the record's mark and the word at +24.
+fn good_first(mark: u64, word: u64, points: u64) -> bool
+    ensures { λ r. ⌜ r ≡ goodFirst mark word points ⌝ }
 {
-    let marked = sheet::MARK_U64 <= points;
+    if mark == 1 {
+        return word == points;
+    }
+    points < sheet::MARK_U64
+}
+
+// The rules on the first part's points, beside the mark and the word at +24.
+fn first_rules(mark: u64, word: u64, points: u64, place: usize) -> Step
+    ensures { λ r. ⌜ ((y : ℕ) → Next Fine y place (firstRules mark word points) r) ⌝ }
+{
+    let good = good_first(mark, word, points);
     let a = demand(
         Step::Fine,
         points < bounds::FOUR_BYTES,
@@ -43,11 +52,10 @@ fn first_rules(word: u64, points: u64, place: usize, year: u32) -> Step
         place,
         row::POINTS,
     );
-    let a = feature(a, marked, years::MARK_65535, place, row::POINTS, year);
-    demand(a, !marked | (word == points), COUNT, place, row::POINTS)
+    demand(a, good, COUNT, place, row::POINTS)
 }
 
-// The rules on a later part's points; marked says whether the first count takes the mark.
+// The rules on a later part's points; marked says whether the record has the mark.
 fn later_rules(marked: bool, points: u64, place: usize) -> Step
     ensures { λ r. ⌜ ((y : ℕ) → Next Fine y place (laterRules marked points) r) ⌝ }
 {
@@ -161,25 +169,26 @@ fn take_pools(
     }
 }
 
-// Takes the first part of a record whose word at +24 is word.
+// Takes the first part of a record with that mark and that word at +24.
 pub fn take_first(
     table: &[u64],
     elements: &[u64],
     bytes: &[u8],
     p: Places,
     reference: u64,
+    mark: u64,
     word: u64,
-    year: u32,
 ) -> Moved
     requires { ⌜ At (now table) (now bytes) p × (p .element ≤ length (now elements)) × (p .number + partWidth ≤ length (now table)) ⌝ }
-    ensures { λ r. ⌜ r ≡ movedOf flattenPart (partBytes (referenceOf reference)) p
-        (answer (upTo year) (takePart (referenceOf reference) (firstRules word) (p .number)
-        (here (tableOf (now (table .entry)) (now (elements .entry)) (now (bytes .entry))) p))) ⌝ }
+    ensures { λ r. ⌜ ((y : ℕ)
+        → r ≡ movedOf flattenPart (partBytes (referenceOf reference)) p
+        (answer (upTo y) (takePart (referenceOf reference) (firstRules mark word) (p .number)
+        (here (tableOf (now (table .entry)) (now (elements .entry)) (now (bytes .entry))) p)))) ⌝ }
 {
     let number = p.number;
     let points = table[number];
     let size = table[number + row::TEXT_LENGTH];
-    match first_rules(word, points, number, year) {
+    match first_rules(mark, word, points, number) {
         Step::Fine => take_pools(elements, bytes, p, reference, points, size, 0),
         Step::Refused(r) => Moved::Refused(r),
     }

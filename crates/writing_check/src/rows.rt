@@ -1,4 +1,4 @@
-// A record's row: eight numbers, then its parts and its items.
+// A record's row: nine numbers, then its parts and its items.
 ghost use mathlib.Core.Path.{_≡_};
 ghost use Prim.Native.Nat.{ℕ, _+_, _*_, _≤_, _<_, _^_};
 ghost use lib.Dec.{leb};
@@ -10,7 +10,7 @@ ghost use Rattle.layout.specs.Shared.Reference.{referenceChecks};
 ghost use Rattle.layout.specs.Shared.Row as Column;
 ghost use Rattle.layout.specs.Shared.Row.{rowSize, referenceOf, rowWidth, partWidth, itemWidth};
 ghost use Rattle.layout.specs.Walk.{answer, upTo};
-ghost use Rattle.layout.specs.Writing.Rows.{rowIn, nameRules, countRules, takeInside, rowWalk};
+ghost use Rattle.layout.specs.Writing.Rows.{rowIn, nameRules, markRules, countRules, takeInside, rowWalk};
 ghost use Rattle.layout.specs.Writing.Tables.{table as tableOf, flattenRecord};
 ghost use Rattle.writing_check.specs.Places.{here, movedOf, At};
 ghost use Rattle.writing_check.specs.Rows.{rowOf, allRules, insideTable, insideBytes};
@@ -24,14 +24,15 @@ use fields::records;
 use fields::steps;
 use fields::steps::Step;
 use fields::steps::demand;
+use fields::steps::feature;
 use layout::Refusal;
 use layout::bounds;
 use layout::header;
 use layout::refusals::TABLE;
 use layout::row;
-use layout::sheet;
+use layout::years;
 
-// A row's eight numbers.
+// A row's nine numbers.
 pub struct Row {
     pub code: u64,
     pub in_group: u64,
@@ -41,6 +42,7 @@ pub struct Row {
     pub word: u64,
     pub parts: u64,
     pub items: u64,
+    pub mark: u64,
 }
 
 fn read_row(table: &[u64], at: usize) -> Row
@@ -56,6 +58,7 @@ fn read_row(table: &[u64], at: usize) -> Row
         word: table[at + row::WORD],
         parts: table[at + row::PARTS],
         items: table[at + row::ITEMS],
+        mark: table[at + row::MARK],
     }
 }
 
@@ -114,10 +117,19 @@ fn reference_rules(so_far: Step, reference: u64, place: usize, year: u32) -> Ste
     )
 }
 
-// The rules on generalisation, word, parts and items.
-fn count_rules(so_far: Step, a: Row, place: usize) -> Step
+// The rules on the mark.
+fn mark_rules(so_far: Step, mark: u64, place: usize, year: u32) -> Step
     requires { ⌜ place + rowWidth ≤ 2 ^ 64 ⌝ }
-    ensures { λ r. ⌜ ((y : ℕ) → Next «so_far» y place (countRules (rowOf a)) r) ⌝ }
+    ensures { λ r. ⌜ Next «so_far» year place (markRules mark) r ⌝ }
+{
+    let s = demand(so_far, mark <= 1, TABLE, place, row::MARK);
+    feature(s, mark == 1, years::MARK_65535, place, row::MARK, year)
+}
+
+// The rules on generalisation, word, parts, items and mark.
+fn count_rules(so_far: Step, a: Row, place: usize, year: u32) -> Step
+    requires { ⌜ place + rowWidth ≤ 2 ^ 64 ⌝ }
+    ensures { λ r. ⌜ Next «so_far» year place (countRules (rowOf a)) r ⌝ }
 {
     let semantics = a.reference / 256 % 256 / 2 % 2 == 1;
     let s = demand(
@@ -136,7 +148,8 @@ fn count_rules(so_far: Step, a: Row, place: usize) -> Step
         row::PARTS,
     );
     let flagged = steps::agree(semantics, 1 <= a.items);
-    demand(s, flagged, TABLE, place, row::ITEMS)
+    let s = demand(s, flagged, TABLE, place, row::ITEMS);
+    mark_rules(s, a.mark, place, year)
 }
 
 // All rules on a row with so many numbers left.
@@ -148,19 +161,17 @@ fn row_rules(a: Row, place: usize, left: usize, year: u32) -> Step
     let s = demand(Step::Fine, fits, TABLE, place, row::CODE);
     let s = name_rules(s, a, place);
     let s = reference_rules(s, a.reference, place, year);
-    count_rules(s, a, place)
+    count_rules(s, a, place, year)
 }
 
-// The parts and items of a row that was let through, at the places after its eight numbers.
+// The parts and items of a row that was let through, at the places after its nine numbers.
 fn take_inside(table: &[u64], elements: &[u64], bytes: &[u8], a: Row, p: Places, year: u32) -> Moved
     requires { ⌜ At (now table) (now bytes) p × (p .element ≤ length (now elements)) × (1 ≤ a .parts)
         × (p .number + (partWidth * a .parts + itemWidth * a .items) ≤ length (now table)) ⌝ }
     ensures { λ r. ⌜ r ≡ movedOf insideTable insideBytes p
         (answer (upTo year) (takeInside (rowOf a) (p .number) (here (tableOf (now (table .entry)) (now (elements .entry)) (now (bytes .entry))) p))) ⌝ }
 {
-    let number = p.number;
-    let marked = sheet::MARK_U64 <= table[number];
-    match parts::take_first(table, elements, bytes, p, a.reference, a.word, year) {
+    match parts::take_first(table, elements, bytes, p, a.reference, a.mark, a.word) {
         Moved::Fine(q) => match parts::take_laters(
             table,
             elements,
@@ -168,7 +179,7 @@ fn take_inside(table: &[u64], elements: &[u64], bytes: &[u8], a: Row, p: Places,
             q,
             a.parts - 1,
             a.reference,
-            marked,
+            a.mark == 1,
         ) {
             Moved::Fine(s) => items::take_items(table, bytes, s, a.items, year),
             Moved::Refused(r) => Moved::Refused(r),

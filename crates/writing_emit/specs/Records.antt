@@ -22,8 +22,8 @@ namesOf ns =
     ++ stored Header.group (Row.nth ns Row.group)
 
 -- reference bytes, generalisation, the word at +24
-unfoldable pub marksOf : List ℕ → List ℕ
-marksOf ns =
+unfoldable pub flagsOf : List ℕ → List ℕ
+flagsOf ns =
     stored Header.byte20 (Row.referenceOf (Row.nth ns Row.reference) .byte20)
     ++ stored Header.byte21 (Row.referenceOf (Row.nth ns Row.reference) .byte21)
     ++ stored Header.byte22 (Row.referenceOf (Row.nth ns Row.reference) .byte22)
@@ -36,10 +36,11 @@ firstPoints = Row.rowWidth + Row.points
 
 -- subobjects and points; "parts (1 + subobjects)"
 unfoldable pub countsOf : List ℕ → List ℕ
-countsOf ns = stored Header.subobjects (Row.nth ns Row.parts - 1) ++ stored Header.points (pointsOf (Row.nth ns firstPoints))
+countsOf ns =
+    stored Header.subobjects (Row.nth ns Row.parts - 1) ++ stored Header.points (pointsOf (Row.nth ns Row.mark) (Row.nth ns firstPoints))
 
 unfoldable pub headerOf : List ℕ → ℕ → ℕ → List ℕ
-headerOf ns metric semantics = lengthsOf metric semantics ++ namesOf ns ++ marksOf ns ++ countsOf ns
+headerOf ns metric semantics = lengthsOf metric semantics ++ namesOf ns ++ flagsOf ns ++ countsOf ns
 
 -- what an accepted row keeps: each number fits its field
 pub record RowFits (ns : List ℕ) : Type 0 where
@@ -50,3 +51,4 @@ pub record RowFits (ns : List ℕ) : Type 0 where
   pub word : Fits Header.word (Row.nth ns Row.word)
   pub some : 1 ≤ Row.nth ns Row.parts
   pub subobjects : Fits Header.subobjects (Row.nth ns Row.parts - 1)
+  pub points : Fits Header.points (pointsOf (Row.nth ns Row.mark) (Row.nth ns firstPoints))

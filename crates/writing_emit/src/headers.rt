@@ -4,7 +4,8 @@ ghost use Prim.Native.Nat.{_+_, _≤_, _<_, _^_};
 ghost use lib.ListN.{length, drop};
 ghost use lib.Seq.{sets};
 ghost use Rattle.layout.specs.Fields.Header;
-ghost use Rattle.writing_emit.specs.Records.{lengthsOf, namesOf, marksOf, countsOf, headerOf, RowFits};
+ghost use Rattle.writing_emit.specs.Records.{lengthsOf, namesOf, flagsOf, countsOf, headerOf, RowFits};
+ghost use Rattle.layout.specs.Layout.Fine.{Fits};
 ghost use Rattle.layout.specs.Shared.Mark.{pointsOf};
 ghost use Rattle.layout.specs.Shared.Row.{rowWidth};
 use fields::numbers;
@@ -42,9 +43,9 @@ fn put_names(table: &[u64], at: usize, out: &mut [u8], w: usize)
 }
 
 // "+20 to +22 reference bytes; +23 generalisation; +24 a word"
-fn put_marks(table: &[u64], at: usize, out: &mut [u8], w: usize)
+fn put_flags(table: &[u64], at: usize, out: &mut [u8], w: usize)
     requires { ⌜ (at + rowWidth ≤ length (now table)) × RowFits (drop at (now table)) × (w + 8 ≤ length (now out)) ⌝ }
-    ensures { λ _. ⌜ now (out .exit) ≡ sets (now (out .entry)) w (marksOf (drop at (now (table .entry)))) ⌝ }
+    ensures { λ _. ⌜ now (out .exit) ≡ sets (now (out .entry)) w (flagsOf (drop at (now (table .entry)))) ⌝ }
 {
     let b = records::reference_bytes(table[at + row::REFERENCE]);
     numbers::put_u8(out, w, b.b20);
@@ -58,11 +59,12 @@ fn put_marks(table: &[u64], at: usize, out: &mut [u8], w: usize)
     numbers::put_u32(out, w + pieces::WORD, table[at + row::WORD] as u32);
 }
 
-// "Points 65535 is a mark": what stands at +30 for a first count.
-fn points_of(count: u64) -> u16
-    ensures { λ r. ⌜ r ≡ pointsOf count ⌝ }
+// "Points 65535 is a mark": what stands at +30, by the mark's number and the first count.
+fn points_of(mark: u64, count: u64) -> u16
+    requires { ⌜ Fits Header.points (pointsOf mark count) ⌝ }
+    ensures { λ r. ⌜ r ≡ pointsOf mark count ⌝ }
 {
-    if sheet::MARK_U64 <= count {
+    if mark == 1 {
         return sheet::MARK;
     }
     count as u16
@@ -77,7 +79,7 @@ fn put_counts(table: &[u64], at: usize, out: &mut [u8], w: usize)
     numbers::put_u16(
         out,
         w + pieces::POINTS,
-        points_of(table[at + row::FIRST_POINTS]),
+        points_of(table[at + row::MARK], table[at + row::FIRST_POINTS]),
     );
 }
 
@@ -96,6 +98,6 @@ pub fn put_header(
 {
     put_lengths(out, w, metric, semantics);
     put_names(table, at, out, w + header::CODE);
-    put_marks(table, at, out, w + header::BYTE20);
+    put_flags(table, at, out, w + header::BYTE20);
     put_counts(table, at, out, w + header::SUBOBJECTS);
 }

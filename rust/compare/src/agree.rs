@@ -8,6 +8,9 @@ use crate::texts::{labels, shown};
 use crate::values::{value, Value};
 use sxf::Text;
 
+/// How many records a sheet has, but that of one long line.
+const RECORDS: usize = 200;
+
 /// How many were held against each other, how many are the same, and the largest difference of those that are not.
 #[derive(Default)]
 struct Tally {
@@ -109,8 +112,9 @@ pub fn run(gdal: &Gdal) {
     let path = scratch.path("agreed.sxf");
     println!("| sheet | records | features in GDAL | coordinates | item values | label texts |");
     println!("|---|---|---|---|---|---|");
-    for base in bases::all(200) {
+    for base in bases::all(RECORDS) {
         compare(gdal, &base, &path);
     }
+    compare(gdal, &bases::marked(RECORDS), &path);
     compare(gdal, &bases::long(), &path);
 }

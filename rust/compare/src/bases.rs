@@ -130,6 +130,11 @@ pub fn all(count: usize) -> Vec<Base> {
     ]
 }
 
+/// Lines of few points under the mark, which they do not need.
+pub fn marked(count: usize) -> Base {
+    base("lines of one to three parts, under the mark", ElementKind::Double, false, count, |m| m.record(0, 3).mark())
+}
+
 /// A line of more points than two bytes count.
 pub fn long() -> Base {
     base("a line of 70000 points, with heights", ElementKind::Double, true, 1, |m| {

@@ -104,6 +104,18 @@ fn where_the_points_are() -> Vec<Case> {
             "000, 2.1.4: N2 + 65536 * N1",
         ),
         case(
+            "a lake of four points under the mark, with an island of four",
+            Look::Points,
+            one(Record::new(1, &ring(0.0, 9.0)).part(&ring(2.0, 1.0)).mark()),
+            "02, request 2: under the mark any count in the word is good. Read alike",
+        ),
+        case(
+            "a lake of four points, with an island of 70000",
+            Look::Points,
+            one(Record::new(1, &ring(0.0, 9.0)).part(&long)),
+            "02, request 2: such a record must carry the mark; 000, 2.1.4: N2 + 65536 * N1",
+        ),
+        case(
             "a vector: two points",
             Look::Points,
             one(Record::new(4, &[at(1.0, 2.0), at(3.0, 4.0)])),

@@ -27,6 +27,8 @@ pub struct Record {
     pub heights: bool,
     /// Bits of the reference bytes besides those that the other fields set.
     pub more: u32,
+    /// Whether the mark 65535 is asked for. The writer sets it too where the points need it.
+    pub mark: bool,
     pub parts: Vec<Part>,
     pub items: Vec<Item>,
 }
@@ -41,6 +43,7 @@ impl Record {
             element: ElementKind::Double,
             heights: false,
             more: 0,
+            mark: false,
             parts: vec![part],
             items: Vec::new(),
         }
@@ -53,6 +56,11 @@ impl Record {
 
     pub fn more(mut self, bits: u32) -> Record {
         self.more |= bits;
+        self
+    }
+
+    pub fn mark(mut self) -> Record {
+        self.mark = true;
         self
     }
 
@@ -95,7 +103,7 @@ impl Record {
         let item = |item: &Item| NewItem { code: item.code, kind: item.kind, scale: item.scale, bytes: item.value.clone() };
         let (in_group, group) = ((number + 1) as u16, 7);
         let items = self.items.iter().map(item).collect();
-        let record = NewRecord { in_group, group, items, ..NewRecord::new(self.code, reference) };
+        let record = NewRecord { in_group, group, items, mark: self.mark, ..NewRecord::new(self.code, reference) };
         self.parts.iter().map(part).fold(record, NewRecord::part)
     }
 
@@ -107,13 +115,14 @@ impl Record {
             |point: Point| [point.x.number(), point.y.number(), point.height.map_or(Number::Whole(0), Height::number)].map(value);
         let part = |part: NewPart| Part { points: part.points.into_iter().map(point).collect(), text: part.text };
         let item = |item: NewItem| Item { code: item.code, kind: item.kind, scale: item.scale, value: item.bytes };
-        let NewRecord { code, parts, items, .. } = NewRecord::from(*record);
+        let NewRecord { code, parts, items, mark, .. } = NewRecord::from(*record);
         Record {
             code,
             localisation: reference.localisation_number() as u8,
             element: reference.planar(),
             heights: reference.three_dimensions(),
             more: reference.0 - reference.localisation_number(),
+            mark,
             parts: parts.into_iter().map(part).collect(),
             items: items.into_iter().map(item).collect(),
         }

@@ -10,7 +10,8 @@ use crate::years::{self, Setting};
 pub(crate) const RECORD_IDENTIFIER: u32 = 0x7FFF_7FFF;
 pub(crate) const HEADER_BYTES: usize = 32;
 
-/// The points field's value that sends the reader to the word at +24.
+/// The points field's value that is the mark: "Points 65535 is a mark: the
+/// count is the word at +24" ("Record").
 pub(crate) const MARK: u64 = 65535;
 
 /// What a record asked for by its number answers.
@@ -36,6 +37,8 @@ pub struct Record {
     pub parts: u64,
     /// Semantic items.
     pub items: u64,
+    /// 1 where the record carries the mark, else 0.
+    pub mark: u64,
     /// The points of the first part.
     pub points: u64,
 }
@@ -69,7 +72,6 @@ pub(crate) fn read_record<L: Listener>(sheet: &[u8], at: usize, setting: Setting
 struct Header {
     record: Record,
     reference: Reference,
-    marked: bool,
     metric: usize,
     metric_end: usize,
     end: usize,
@@ -99,10 +101,10 @@ impl Header {
                 word: u64::from(u32_at(header, 24)),
                 parts: 1 + u64::from(u16_at(header, 28)),
                 items: 0,
+                mark: u64::from(marked),
                 points,
             },
             reference,
-            marked,
             metric: at + HEADER_BYTES,
             metric_end: at + HEADER_BYTES + metric,
             end: at + total,
@@ -121,7 +123,8 @@ fn read_lengths(header: &[u8; HEADER_BYTES], place: u64, left: usize) -> Result<
     Ok((total as usize, metric as usize))
 }
 
-/// Whether the record carries the mark, and its first part's points.
+/// Whether the record carries the mark, and its first part's points: "under the
+/// mark any count in the word is good" (document 02, request 2).
 fn read_first_count(header: &[u8; HEADER_BYTES], place: u64, setting: Setting) -> Result<(bool, u64), Refusal> {
     let points = u64::from(u16_at(header, 30));
     if points != MARK {
@@ -129,15 +132,15 @@ fn read_first_count(header: &[u8; HEADER_BYTES], place: u64, setting: Setting) -
     }
     setting.admit(true, years::MARK, place + 30)?;
     let word = u64::from(u32_at(header, 24));
-    require(word >= MARK, Refusal::COUNT, place + 24)?;
     Ok((true, word))
 }
 
 fn read_metric<L: Listener>(sheet: &[u8], header: &Header, listener: &mut L) -> Result<(), Refusal> {
     let shape = header.reference.shape();
+    let marked = header.record.mark == 1;
     let mut metric = Span::new(sheet, header.metric, header.metric_end);
     for part in 0..header.record.parts {
-        let count = if part == 0 { header.record.points } else { read_subobject_count(&mut metric, header.marked)? };
+        let count = if part == 0 { header.record.points } else { read_subobject_count(&mut metric, marked)? };
         let points = metric.take(count * shape.point_bytes())?;
         let text = if header.reference.has_text() { read_part_text(&mut metric)? } else { &[] };
         listener.part(count, points, shape, text);

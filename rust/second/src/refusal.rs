@@ -33,7 +33,8 @@ impl Refusal {
     pub const NOT_CARRIED: u64 = 9;
     /// Something in a record does not fit, or is left over.
     pub const LENGTH: u64 = 10;
-    /// A count of points that does not agree with the mark.
+    /// A count of points that does not agree with the mark, or under the mark
+    /// with the word.
     pub const COUNT: u64 = 11;
     /// An item's type, scale or length.
     pub const SEMANTIC: u64 = 12;

@@ -1,4 +1,5 @@
-//! The record table and its two pools ("The record table").
+//! The record table and its two pools ("The record table"). "The record row
+//! gains a ninth number, mark 0 or 1" (document 02, request 2), after items.
 
 use crate::record::{Listener, Record};
 use crate::refusal::Refusal;
@@ -7,7 +8,7 @@ use crate::shape::Shape;
 /// The contents of a sheet's records, unfolded.
 #[derive(Clone, PartialEq, Eq, Debug, Default)]
 pub struct Table {
-    /// Per record eight numbers, then per part two, then per item four.
+    /// Per record nine numbers, then per part two, then per item four.
     pub numbers: Vec<u64>,
     /// The elements of all points as stored bits, in record order.
     pub elements: Vec<u64>,
@@ -16,7 +17,7 @@ pub struct Table {
 }
 
 /// Numbers of a record's row, of a part and of an item.
-const ROW: usize = 8;
+const ROW: usize = 9;
 const PART: usize = 2;
 const ITEM: usize = 4;
 
@@ -82,6 +83,7 @@ impl Listener for Unfolding {
             record.word,
             record.parts,
             record.items,
+            record.mark,
         ]);
     }
 
@@ -107,7 +109,7 @@ impl Listener for Unfolding {
 pub(crate) struct Row<'a> {
     /// The index of the first.
     pub(crate) index: usize,
-    /// Its eight numbers.
+    /// Its nine numbers.
     pub(crate) numbers: &'a [u64; ROW],
     /// Two numbers a part.
     pub(crate) parts: &'a [u64],

@@ -87,11 +87,12 @@ impl Writer<'_> {
         Ok(())
     }
 
-    /// The eight numbers of a row. They stand in the header's order, so each
-    /// is added once it is checked; only the lengths are still zero.
+    /// The nine numbers of a row. Those that the header has stand in its order,
+    /// so each is added once it is checked; only the lengths are still zero,
+    /// and the points at +30 are to follow.
     fn header(&mut self, row: &Row) -> Result<Metric, Refusal> {
         let index = row.index as u64;
-        let [code, in_group, group, reference, generalisation, word, parts, items] = *row.numbers;
+        let [code, in_group, group, reference, generalisation, word, parts, items, mark] = *row.numbers;
         self.add(&RECORD_IDENTIFIER.to_le_bytes());
         self.add(&[0; 8]);
         self.field::<4>(code, index)?;
@@ -106,19 +107,27 @@ impl Writer<'_> {
         self.field::<2>(parts - 1, index + 6)?;
         let flag_agrees = (items != 0) == reference.has_semantics();
         require(flag_agrees, Refusal::TABLE, index + 7)?;
-        Ok(Metric { reference, word, marked: row.parts[0] >= MARK })
+        // "14 for a mark over 1", and "the writer's TOO NEW now stands at the
+        // mark's number" (document 02, request 2).
+        require(mark <= 1, Refusal::TABLE, index + 8)?;
+        let marked = mark == 1;
+        self.setting.admit(marked, years::MARK, index + 8)?;
+        Ok(Metric { reference, word, marked })
     }
 
-    /// The first part's count, which ends the header.
+    /// The first part's count, or the mark in its stead, which ends the header.
+    /// COUNT is given "for mark 0 with a first count of 65535 or more" and "for
+    /// mark 1 with a word that differs from the first count" (document 02,
+    /// request 2).
     fn first_count(&mut self, count: u64, metric: &Metric, index: u64) -> Result<(), Refusal> {
         require(count < 1 << 32, Refusal::TABLE, index)?;
-        self.setting.admit(metric.marked, years::MARK, index)?;
-        let agrees = !metric.marked || metric.word == count;
+        let agrees = if metric.marked { count == metric.word } else { count < MARK };
         require(agrees, Refusal::COUNT, index)?;
-        self.field::<2>(count.min(MARK), index)
+        self.field::<2>(if metric.marked { MARK } else { count }, index)
     }
 
-    /// A later part's count, as N1 and N2.
+    /// A later part's count, as N1 and N2. COUNT is given for mark 0 with "a
+    /// later count over 65535" (document 02, request 2).
     fn later_count(&mut self, count: u64, metric: &Metric, index: u64) -> Result<(), Refusal> {
         require(count < 1 << 32, Refusal::TABLE, index)?;
         let agrees = metric.marked || count <= 65535;

@@ -49,8 +49,8 @@ pub enum Command {
     ///
     /// The first line is the head, then comes a line for each record. Texts are characters, and those with a byte that has no character are bytes;
     /// bytes, as other values and what is carried, are strings of hexadecimal digits; elements are numbers, and those that decimals do not
-    /// carry safely are strings with their bits; all other numbers are integers. A tool that keeps doubles does not spoil these lines, and
-    /// `sxf write` takes them.
+    /// carry safely are strings with their bits; all other numbers are integers. A record has `mark` 1 where its points at +30 are 65535, and no
+    /// `mark` where they are not. A tool that keeps doubles does not spoil these lines, and `sxf write` takes them.
     Table {
         /// The sheet
         file: PathBuf,
@@ -63,7 +63,8 @@ pub enum Command {
     /// Write a sheet from JSON lines as `sxf table` prints them
     ///
     /// The file is written whole or not at all. Where the head has `records`, so many records must follow; without it any number may. A text is
-    /// taken as characters (title, label, an item's text), by its coding, or as bytes (title_bytes, label_bytes, an item's scale and value). The
+    /// taken as characters (title, label, an item's text), by its coding, or as bytes (title_bytes, label_bytes, an item's scale and value). A
+    /// record whose line has no `mark` has it where its points need it: 65535 or more in the first part, more than 65535 in a later one. The
     /// lines are UTF-8.
     Write {
         /// The JSON lines

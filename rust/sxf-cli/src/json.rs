@@ -78,6 +78,10 @@ pub struct RecordLine<'a> {
     pub generalisation: u64,
     #[serde(deserialize_with = "whole")]
     pub word: u64,
+    /// 1 for a record with the mark, whose word is its first part's points; left out for one without. Where a line has none, the points say
+    /// whether the record needs it, so that a line from before there was a `mark` means what it meant.
+    #[serde(default, deserialize_with = "some_whole", skip_serializing_if = "Option::is_none")]
+    pub mark: Option<u64>,
     #[serde(deserialize_with = "objects")]
     pub parts: Vec<PartLine<'a>>,
     #[serde(deserialize_with = "objects")]

@@ -2,6 +2,7 @@
 use crate::json::{ItemLine, PartLine, RecordLine};
 use crate::text::Given;
 use std::borrow::Cow;
+use sxf::table::needs_mark;
 use sxf::{row, Coding, NewItem, Reference, Table};
 
 /// The table, and the first line of each of its records.
@@ -35,7 +36,7 @@ impl Records {
     pub fn push(&mut self, line: usize, record: &RecordLine<'_>) -> Result<(), String> {
         let &RecordLine { code, in_group, group, reference, generalisation, word, .. } = record;
         let (parts, items) = (record.parts.len() as u64, record.items.len() as u64);
-        let row = row::Record { code, in_group, group, reference, generalisation, word, parts, items };
+        let row = row::Record { code, in_group, group, reference, generalisation, word, parts, items, mark: mark(record) };
         self.lines.push(line);
         self.table.numbers.extend(row.numbers());
         for (number, part) in record.parts.iter().enumerate() {
@@ -82,6 +83,12 @@ impl Records {
         self.table.bytes.extend_from_slice(&value);
         Ok(())
     }
+}
+
+/// The mark that a line states. Where it states none, its points say whether it is needed.
+fn mark(record: &RecordLine<'_>) -> u64 {
+    let points = record.parts.iter().map(|part| part.points.len() as u64);
+    record.mark.unwrap_or_else(|| needs_mark(points).into())
 }
 
 /// The scale byte and the value of an item, which its line has, or gives as the characters of a text.

@@ -80,8 +80,10 @@ fn record(record: &Record<'_>, units: Option<&str>, out: &mut dyn Write) -> Resu
         writeln!(out, "  {units}")?;
     }
     writeln!(out, "  visibility {}", record.visibility())?;
-    if record.word() != 0 {
-        writeln!(out, "  word at +24 {}", record.word())?;
+    match (record.mark(), record.word()) {
+        (true, _) => writeln!(out, "  mark 65535: the word at +24 is the first part's points")?,
+        (false, 0) => {}
+        (false, word) => writeln!(out, "  word at +24 {word}")?,
     }
     record.parts().enumerate().try_for_each(|(number, each)| part(number, &each, out))?;
     record.items().enumerate().try_for_each(|(number, each)| item(number, &each, out))

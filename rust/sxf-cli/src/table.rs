@@ -59,6 +59,7 @@ fn record_line<'a>(record: &Record<'a>, as_bytes: bool) -> RecordLine<'a> {
         reference: record.reference().0.into(),
         generalisation: record.generalisation().into(),
         word: record.word().into(),
+        mark: record.mark().then_some(1),
         parts: record.parts().map(|part| part_line(record.reference(), &part, as_bytes)).collect(),
         items: record.items().map(|item| item_line(&item, as_bytes)).collect(),
     }

@@ -38,6 +38,7 @@ pub struct Record {
     pub word: u64,
     pub parts: u64,
     pub items: u64,
+    pub mark: u64,
     pub points: u64,
 }
 
@@ -208,7 +209,7 @@ mod tests {
     #[test]
     fn answers_are_laid_out_as_c_holds_them() {
         laid_out!(Checked: number place year sum records numbers elements bytes);
-        laid_out!(Record: number place year at total code in_group group reference generalisation word parts items points);
+        laid_out!(Record: number place year at total code in_group group reference generalisation word parts items mark points);
         laid_out!(Head: number place year date designation title designation2 scale);
         laid_out!(Unit: number place year unit byte);
         laid_out!(Coordinate: number place year unit byte width kind bits);

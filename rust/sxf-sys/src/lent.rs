@@ -232,7 +232,7 @@ mod tests {
 
     const Q: &[u8] = include_bytes!("../../../samples/Q.sxf");
     /// How many numbers, elements and bytes Q's table has.
-    const LENGTHS: [usize; 3] = [14, 2, 2];
+    const LENGTHS: [usize; 3] = [15, 2, 2];
 
     #[test]
     fn what_is_unfolded_into_new_memory_is_what_is_unfolded_into_lent() {
@@ -245,11 +245,11 @@ mod tests {
 
     #[test]
     fn new_memory_of_other_lengths_stays_empty() {
-        for lengths in [[15, 2, 2], [14, 3, 2], [14, 2, 3], [99; 3]] {
+        for lengths in [[16, 2, 2], [15, 3, 2], [15, 2, 3], [99; 3]] {
             let (answer, new) = unfold_new(Q, 2017, lengths);
             assert_eq!((answer.number, new), (OK, Unfolded::default()));
         }
-        for (place, lengths) in [(1, [13, 2, 2]), (2, [14, 1, 2]), (3, [14, 2, 1])] {
+        for (place, lengths) in [(1, [14, 2, 2]), (2, [15, 1, 2]), (3, [15, 2, 1])] {
             let (answer, new) = unfold_new(Q, 2017, lengths);
             assert_eq!((answer.number, answer.place, new), (ROOM, place, Unfolded::default()));
         }

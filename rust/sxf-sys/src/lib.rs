@@ -41,5 +41,8 @@ pub use fields::{Carried, Field, Rest, LIMIT};
 /// "Points 65535 is a mark: the count is the word at +24" (01, Record).
 pub const MARK: u64 = 65_535;
 
+/// The version of `include/sxf.h` that this crate declares, `SXF_VERSION` there.
+pub const VERSION: u32 = 2;
+
 // A length is 64 bits wide in the archive, which is for x86-64.
 const _: () = assert!(usize::BITS == 64);

@@ -22,7 +22,7 @@ pub const TOO_NEW: u64 = 8;
 pub const NOT_CARRIED: u64 = 9;
 /// A length that is too small, does not fit or leaves bytes over.
 pub const LENGTH: u64 = 10;
-/// The word at +24 is too small under the mark; N1 is not 0 without it.
+/// A count of points does not agree with the record's mark, or under the mark with the word at +24.
 pub const COUNT: u64 = 11;
 /// An item's unknown type, bad scale, or bad length of type 128.
 pub const SEMANTIC: u64 = 12;

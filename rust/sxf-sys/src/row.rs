@@ -2,12 +2,13 @@
 //!
 //! "Per record eight numbers: code, number in group, group number, reference bytes as one number (byte 20 lowest), generalisation, word at
 //! +24, parts (1 + subobjects), items. Then per part two: points, text length. Then per item four: code, type, scale byte, value length."
+//! "The record row gains a ninth number, mark 0 or 1" (02, request 2), after items.
 //!
 //! ```
 //! use sxf_sys::row;
 //! // The record of document 01's sheet P: a point with its visibility unset.
 //! let record = row::Record { reference: 2, generalisation: 255, parts: 1, ..row::Record::default() };
-//! assert_eq!(record.numbers(), [0, 0, 0, 2, 255, 0, 1, 0]);
+//! assert_eq!(record.numbers(), [0, 0, 0, 2, 255, 0, 1, 0, 0]);
 //! assert_eq!(row::Part { points: 1, text_length: 0 }.numbers(), [1, 0]);
 //! ```
 
@@ -27,8 +28,10 @@ pub const WORD: usize = 5;
 pub const PARTS: usize = 6;
 /// Index of its count of items.
 pub const ITEMS: usize = 7;
+/// Index of its mark.
+pub const MARK: usize = 8;
 /// How many numbers a record has before those of its parts.
-pub const ROW_WIDTH: usize = 8;
+pub const ROW_WIDTH: usize = 9;
 
 /// Index of a part's count of points, counted from the part's first number.
 pub const POINTS: usize = 0;
@@ -97,6 +100,8 @@ named! {
     parts PARTS,
     /// How many items it has.
     items ITEMS,
+    /// Its mark: 1 where the points at +30 are 65535 and the word is the first part's points, else 0.
+    mark MARK,
 }
 
 named! {
@@ -127,9 +132,9 @@ mod tests {
 
     #[test]
     fn names_and_numbers_go_to_and_fro() {
-        let record = [1, 2, 3, 4, 5, 6, 7, 8];
+        let record = [1, 2, 3, 4, 5, 6, 7, 8, 9];
         assert_eq!(Record::of(&record).numbers(), record);
-        assert_eq!((Record::of(&record).code, Record::of(&record).reference, Record::of(&record).items), (1, 4, 8));
+        assert_eq!((Record::of(&record).code, Record::of(&record).reference, Record::of(&record).mark), (1, 4, 9));
         assert_eq!(Part::of(&[1, 2]), Part { points: 1, text_length: 2 });
         assert_eq!(Item::of(&[1, 2, 3, 4]).numbers(), [1, 2, 3, 4]);
     }
@@ -137,6 +142,6 @@ mod tests {
     /// The cases of `Shared/Row.antt`.
     #[test]
     fn a_row_has_the_definitions_sizes() {
-        assert_eq!((row_size(1, 0), row_size(2, 3)), (10, 24));
+        assert_eq!((row_size(1, 0), row_size(2, 3)), (11, 25));
     }
 }

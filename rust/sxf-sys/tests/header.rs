@@ -1,7 +1,8 @@
 //! Holds what this crate declares against `include/sxf.h`: each number, and each struct and call with the names, the order and the types of
 //! its fields and parameters.
 use sxf_sys::fields::{descriptor, passport, START};
-use sxf_sys::{codings, dimensions, kinds, refusals, units, Carried, Rest, LIMIT};
+use sxf_sys::row::{ITEM_WIDTH, PART_WIDTH, ROW_WIDTH};
+use sxf_sys::{codings, dimensions, kinds, refusals, units, Carried, Rest, LIMIT, VERSION};
 
 const HEADER: &str = include_str!("../../../include/sxf.h");
 const CALLS: &str = include_str!("../src/calls.rs");
@@ -56,6 +57,9 @@ fn numbers_are_the_headers() {
         ("SXF_REST_SIZE", passport::REST.width as u64),
         ("SXF_CARRIED_SIZE", descriptor::CARRIED.width as u64),
         ("SXF_LIMIT", LIMIT as u64),
+        ("SXF_ROW_WIDTH", ROW_WIDTH as u64),
+        ("SXF_PART_WIDTH", PART_WIDTH as u64),
+        ("SXF_ITEM_WIDTH", ITEM_WIDTH as u64),
         ("SXF_DEVICE_POINTS", units::DEVICE_POINTS),
         ("SXF_METRES", units::METRES),
         ("SXF_RADIANS", units::RADIANS),
@@ -75,6 +79,12 @@ fn numbers_are_the_headers() {
         ("SXF_KOI8", codings::KOI8.into()),
     ];
     assert_eq!(numbers(&without_comments(HEADER)), ours.map(|(name, number)| (name.to_string(), number)));
+}
+
+#[test]
+fn version_is_the_headers() {
+    let defined: Vec<&str> = HEADER.lines().filter_map(|line| line.strip_prefix("#define SXF_VERSION ")).collect();
+    assert_eq!(defined, [VERSION.to_string()]);
 }
 
 /// The name that a struct of the header has here: `Checked` for `sxf_checked`.

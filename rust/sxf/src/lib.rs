@@ -1,6 +1,6 @@
 //! Sheets of SXF 4.0, read and written by the proved library.
 //!
-//! What a sheet is, and when it is refused, is document 01's ("the document" below), and the names here are its own words.
+//! What a sheet is, and when it is refused, is document 01's, as 02 amends it ("the document" below), and the names here are its own words.
 //!
 //! ```
 //! use sxf::{Head, Setting, Sheet, Writer};
@@ -36,8 +36,8 @@
 //! record asked for by number; the lengths of the head's texts; unit, corners, visibility; what an element's bits stand for, and in which unit;
 //! the numbers of items; which character a byte of DOS, Windows or KOI-8 is; the bytes written. This crate hands them on. Its own, which tests
 //! hold and no proof, are the walk over the table that was unfolded, a record's place in that walk, the bits of a number that is to be written,
-//! the fields that [`Head`] reads out of its rest and its carried bytes, which coding a text is in, texts in UTF-16, the room for writing, and
-//! the names of features.
+//! which record that is to be written needs the mark, the fields that [`Head`] reads out of its rest and its carried bytes, which coding a text
+//! is in, texts in UTF-16, the room for writing, and the names of features.
 //!
 //! Nothing here panics on what a sheet or a table holds. That an accepted sheet's table is well formed is the library's promise; what goes
 //! against it would end an iteration early, and for good.

@@ -30,6 +30,8 @@ pub struct RecordAt {
     pub parts: u32,
     /// How many items it has.
     pub items: usize,
+    /// Whether it has the mark: the points at +30 are 65535, and the word at +24 is its first part's points.
+    pub mark: bool,
     /// How many points its first part has.
     pub points: u32,
 }
@@ -47,6 +49,7 @@ impl RecordAt {
             word: low32(answer.word),
             parts: low32(answer.parts),
             items: answer.items as usize,
+            mark: answer.mark != 0,
             points: low32(answer.points),
         }
     }
@@ -124,6 +127,12 @@ impl<'a> Record<'a> {
     /// The word at +24: the first part's points under the mark, else carried unread.
     pub fn word(&self) -> u32 {
         low32(self.row.numbers[row::WORD])
+    }
+
+    /// Whether it has the mark: the points at +30 are 65535, and the word at +24 is the first part's points, however few they are. A later part
+    /// of more than 65535 points needs it.
+    pub fn mark(&self) -> bool {
+        self.row.numbers[row::MARK] != 0
     }
 
     /// How many points the first part has.

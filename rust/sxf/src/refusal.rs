@@ -60,7 +60,7 @@ named! {
     TOO_NEW "TOO NEW" "a feature here is later than the setting"
     NOT_CARRIED "NOT CARRIED" "a record has a binding vector or graphics, which are not carried"
     LENGTH "LENGTH" "a length is too small, does not fit, or leaves bytes over"
-    COUNT "COUNT" "a count of points does not agree with the mark for large counts"
+    COUNT "COUNT" "a count of points needs the mark 65535, which the record does not have, or under the mark the word at +24 is not the first part's points"
     SEMANTIC "SEMANTIC" "a semantic item has an unknown type, a bad scale or a bad length"
     LEFT_OVER "LEFT OVER" "there are bytes after the last record"
     TABLE "TABLE" "the record table is not well formed here"

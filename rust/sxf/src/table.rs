@@ -9,6 +9,7 @@ use std::fmt;
 use sxf_sys::fields::{header, item, subobject, START};
 use sxf_sys::lent;
 use sxf_sys::row::{self, ITEM_WIDTH, PART_WIDTH, ROW_WIDTH};
+use sxf_sys::MARK;
 
 /// A record table in memory of its own.
 #[derive(Clone, Debug, Default, PartialEq, Eq)]
@@ -105,6 +106,19 @@ pub fn unfold_into(
     bytes: &mut [u8],
 ) -> Result<Sizes, Refusal> {
     Sizes::of(lent::unfold(sheet, setting.year(), numbers, elements, bytes))
+}
+
+/// Whether a record needs the mark, by the points of its parts in order: "a first count over 65534 needs mark 1" (02, request 2), and without
+/// the mark a later count over 65535 "has no room for its upper half".
+///
+/// ```
+/// use sxf::table::needs_mark;
+/// assert!(needs_mark([10, 70_000]) && needs_mark([65_535]));
+/// assert!(!needs_mark([65_534, 65_535]) && !needs_mark([]));
+/// ```
+pub fn needs_mark(points: impl IntoIterator<Item = u64>) -> bool {
+    let mut points = points.into_iter();
+    points.next().is_some_and(|first| first >= MARK) || points.any(|later| later > MARK)
 }
 
 impl<'a> TableRef<'a> {
@@ -267,6 +281,7 @@ fn record_word(column: usize) -> &'static str {
         row::WORD => "word at +24",
         row::PARTS => "parts",
         row::ITEMS => "items",
+        row::MARK => "mark",
         _ => "?",
     }
 }
@@ -306,8 +321,8 @@ mod tests {
 
     /// The numbers of document 01's sheet Q: of its record, its part and its item.
     #[rustfmt::skip]
-    const Q: [u64; 14] = [
-        0, 0, 0, 0x202, 255, 0, 1, 1,
+    const Q: [u64; 15] = [
+        0, 0, 0, 0x202, 255, 0, 1, 1, 0,
         1, 0,
         1, 2, 0xFF, 2,
     ];
@@ -335,8 +350,8 @@ mod tests {
         let (many_points, long_text) =
             (row::Part { points: u64::MAX, text_length: 0 }, row::Part { points: 1, text_length: u64::MAX });
         for broken in [
-            TableRef { numbers: &Q[..13], ..q() },
-            TableRef { numbers: &Q[..7], ..q() },
+            TableRef { numbers: &Q[..Q.len() - 1], ..q() },
+            TableRef { numbers: &Q[..ROW_WIDTH - 1], ..q() },
             TableRef { elements: &[3], ..q() },
             TableRef { bytes: &[0xF9], ..q() },
             TableRef { numbers: &stating(u64::MAX, u64::MAX, &[]), ..q() },
@@ -368,12 +383,13 @@ mod tests {
         let told = |index| q().spot(index).map(|spot| spot.to_string());
         let (part, item) = (ROW_WIDTH, ROW_WIDTH + PART_WIDTH);
         assert_eq!(told(row::REFERENCE).as_deref(), Some("record 0, reference bytes"));
+        assert_eq!(told(row::MARK).as_deref(), Some("record 0, mark"));
         assert_eq!(told(part + row::TEXT_LENGTH).as_deref(), Some("record 0, part 0, text length"));
         assert_eq!(told(item + row::ITEM_LENGTH).as_deref(), Some("record 0, item 0, value length"));
         assert_eq!((told(Q.len()), told(usize::MAX)), (None, None));
         let twice = [Q, Q].concat();
         let told = |index| TableRef { numbers: &twice, ..q() }.spot(index).map(|spot| spot.to_string());
         assert_eq!(told(Q.len() + item + row::ITEM_CODE).as_deref(), Some("record 1, item 0, code"));
-        assert_eq!(TableRef { numbers: &Q[..13], ..q() }.spot(0), None);
+        assert_eq!(TableRef { numbers: &Q[..Q.len() - 1], ..q() }.spot(0), None);
     }
 }

@@ -4,13 +4,12 @@ use crate::head::Head;
 use crate::new_item::NewItem;
 use crate::part::{Part, Point};
 use crate::record::Record;
-use crate::table::{Row, Table, TableRef};
+use crate::table::{needs_mark, Row, Table, TableRef};
 use crate::{Coding, NoCharacter, Reference, Refusal, Setting, Sheet, LIMIT};
 use std::error::Error;
 use std::fmt;
 use sxf_sys::lent::{self, Contents};
 use sxf_sys::row::{self, PART_WIDTH};
-use sxf_sys::MARK;
 
 /// Writes a sheet. The room is worked out from the table, and is exact.
 ///
@@ -21,7 +20,7 @@ use sxf_sys::MARK;
 /// use sxf::{write, Head, Setting, TableRef};
 /// // Document 01's sheet P.
 /// let head = Head { designation: b"A", designation2: b"A", ..Head::PLAIN };
-/// let table = TableRef { numbers: &[0, 0, 0, 2, 255, 0, 1, 0, 1, 0], elements: &[3, 4], bytes: &[] };
+/// let table = TableRef { numbers: &[0, 0, 0, 2, 255, 0, 1, 0, 0, 1, 0], elements: &[3, 4], bytes: &[] };
 /// let sheet = write(&head, table, Setting::Y1999)?;
 /// assert_eq!(sxf::check(&sheet, Setting::Y1999)?.sum, 1865);
 /// # Ok::<(), sxf::Refusal>(())
@@ -143,27 +142,25 @@ pub struct NewRecord {
     pub reference: Reference,
     /// Its generalisation byte; 255 is unset.
     pub generalisation: u8,
-    /// The word at +24: the first part's points where they are 65535 or more, else carried unread.
+    /// The word at +24, which is carried unread. Under the mark it is not looked at: the first part's points stand there.
     pub word: u32,
     /// The object itself, then its subobjects.
     pub parts: Vec<NewPart>,
     /// Its semantic items.
     pub items: Vec<NewItem>,
+    /// Whether the mark is asked for. A record whose points [need it](needs_mark) has it too where this is false.
+    pub mark: bool,
 }
 
 impl NewRecord {
     /// A record of no part and no item, visibility unset.
     pub fn new(code: u32, reference: Reference) -> NewRecord {
         let (parts, items) = (Vec::new(), Vec::new());
-        NewRecord { code, in_group: 0, group: 0, reference, generalisation: 255, word: 0, parts, items }
+        NewRecord { code, in_group: 0, group: 0, reference, generalisation: 255, word: 0, parts, items, mark: false }
     }
 
-    /// The same with one more part. A first part of 65535 points or more has its count in the word.
+    /// The same with one more part.
     pub fn part(mut self, part: NewPart) -> NewRecord {
-        if self.parts.is_empty() && part.points.len() as u64 >= MARK {
-            // A count that does not fit is far over the limit of a sheet.
-            self.word = u32::try_from(part.points.len()).unwrap_or(u32::MAX);
-        }
         self.parts.push(part);
         self
     }
@@ -175,16 +172,44 @@ impl NewRecord {
         self
     }
 
+    /// The same with the mark asked for, which came in 2004.
+    ///
+    /// ```
+    /// use sxf::{Head, NewPart, NewRecord, Reference, Setting, Sheet, Writer};
+    ///
+    /// let mut writer = Writer::new(Head::PLAIN)?;
+    /// writer.push(&NewRecord::new(31_120_000, Reference(1)).part(NewPart::default()).mark())?;
+    /// assert!(Sheet::read(&writer.write(Setting::Y2004)?, Setting::Y2017)?.record(0)?.mark());
+    /// assert_eq!(writer.write(Setting::Y1999).unwrap_err().name(), "TOO NEW");
+    /// # Ok::<(), Box<dyn std::error::Error>>(())
+    /// ```
+    pub fn mark(mut self) -> NewRecord {
+        self.mark = true;
+        self
+    }
+
+    /// The mark, and the word at +24: the library refuses "mark 1 with a word that differs from the first count" (02, request 2).
+    fn mark_and_word(&self) -> (bool, u64) {
+        let mut points = self.parts.iter().map(|part| part.points.len() as u64);
+        if self.mark || needs_mark(points.clone()) {
+            (true, points.next().unwrap_or(0))
+        } else {
+            (false, self.word.into())
+        }
+    }
+
     fn numbers(&self) -> impl Iterator<Item = u64> + '_ {
+        let (mark, word) = self.mark_and_word();
         let record = row::Record {
             code: self.code.into(),
             in_group: self.in_group.into(),
             group: self.group.into(),
             reference: self.reference.0.into(),
             generalisation: self.generalisation.into(),
-            word: self.word.into(),
+            word,
             parts: self.parts.len() as u64,
             items: self.items.len() as u64,
+            mark: mark.into(),
         };
         let parts = self.parts.iter().flat_map(NewPart::numbers);
         let items = self.items.iter().flat_map(NewItem::numbers);
@@ -229,6 +254,7 @@ impl From<Record<'_>> for NewRecord {
             word: record.word(),
             parts: record.parts().map(NewPart::from).collect(),
             items: record.items().map(NewItem::from).collect(),
+            mark: record.mark(),
         }
     }
 }

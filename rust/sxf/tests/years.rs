@@ -1,6 +1,6 @@
 //! Each feature of the document's list, alone in a sheet: where it is met, its year and its name.
 use sxf::fields::{descriptor, header, item, passport, START};
-use sxf::row::{self, ITEMS, POINTS, REFERENCE, ROW_WIDTH, WORD};
+use sxf::row::{self, ITEMS, MARK, REFERENCE, WORD};
 use sxf::years::{self, Feature};
 use sxf::{write, Head, Reference, Setting, Table};
 
@@ -69,9 +69,8 @@ fn features_of_the_reference_bytes() {
 #[test]
 fn the_mark_and_type_128() {
     let mut marked = second(0);
-    marked.numbers[SECOND_ROW + WORD] = 65_535;
-    marked.numbers[SECOND_ROW + ROW_WIDTH + POINTS] = 65_535;
-    marked.elements.resize(2 + 2 * 65_535, 0);
+    marked.numbers[SECOND_ROW + WORD] = 1;
+    marked.numbers[SECOND_ROW + MARK] = 1;
     let sheet = write(&Head::PLAIN, marked.lend(), Setting::Y2017).expect("the mark");
     assert_eq!(features(&sheet), [(header::POINTS.at(SECOND).place, 2004, "the mark 65535")]);
 

@@ -11,7 +11,7 @@ use crate::tables::closing_zeros;
 use second::{Head, Table};
 use sxf_sys::fields::{descriptor, header, passport, Field, START};
 use sxf_sys::reference::{SEMANTICS, TEXT_IN_METRIC};
-use sxf_sys::row;
+use sxf_sys::{row, MARK};
 
 /// Each bit of a sheet turned, alone, and the sum put right unless it is the
 /// sum's bit.
@@ -93,13 +93,14 @@ fn all() -> [(u32, Care); 9] {
 }
 
 /// One value of a byte, in each byte of the heads, in each reference byte
-/// with all values of another, as an item's type with all scales, and as
-/// the length of a text and of a value.
+/// with all values of another, as an item's type with all scales, as the
+/// length of a text and of a value, and as counts of points.
 pub fn byte(judge: &mut Judge, value: u8, numbers: &mut Numbers) {
     heads(judge, value, numbers);
     references(judge, value, numbers);
     items(judge, value, numbers);
     lengths(judge, value, numbers);
+    counts(judge, value, numbers);
     judge.accepted = true;
 }
 
@@ -138,26 +139,40 @@ fn heads(judge: &mut Judge, value: u8, numbers: &mut Numbers) {
     }
 }
 
+/// Each reference number with the value in one of its bytes, with the mark or
+/// without, and with an item or none, which mostly agrees with its flag.
 fn references(judge: &mut Judge, value: u8, numbers: &mut Numbers) {
     for other in 0..=255 {
         for [low, middle, high] in [[value, 0, other], [value, other, 0], [3, value, other], [5, other, value]] {
             let reference = u64::from(u32::from_le_bytes([low, middle, high, 0]));
-            let item = row::Item { code: 6, kind: 2, scale: 0xFF, length: 2 };
-            let (items, bytes) = if reference & SEMANTICS != 0 { (&[item][..], vec![7, 8]) } else { (&[][..], vec![]) };
-            let table = without_points(reference, 0, items, bytes);
-            let years = [numbers.pick(&SETTINGS), numbers.pick(&SETTINGS)];
+            let mark = numbers.pick(&[0, 0, 0, 1, 1, 2]);
+            let has_item = (reference & SEMANTICS != 0) == numbers.chance(7, 8);
             let before = judge.disagreements.len();
-            writes(judge, &plain_head(), &table, &years, numbers);
-            judge.context(before, || format!("a row with reference {reference:#x}"));
-
-            let metric: &[u8] = if reference & TEXT_IN_METRIC != 0 { &[0, 0] } else { &[] };
-            let semantics: &[u8] = if reference & SEMANTICS != 0 { &[6, 0, 2, 0xFF, 7, 8] } else { &[] };
-            let sheet = sheet_of(reference, metric, semantics);
-            let before = judge.disagreements.len();
-            judge.reads_in_place(&sheet, &all(), numbers);
-            judge.context(before, || format!("a record with reference {reference:#x}"));
+            reference_written(judge, reference, mark, has_item, numbers);
+            reference_read(judge, reference, mark, has_item, numbers);
+            judge.context(before, || format!("reference {reference:#x}, mark {mark}, an item: {has_item}"));
         }
     }
+}
+
+fn reference_written(judge: &mut Judge, reference: u64, mark: u64, has_item: bool, numbers: &mut Numbers) {
+    let item = row::Item { code: 6, kind: 2, scale: 0xFF, length: 2 };
+    let (items, bytes) = if has_item { (&[item][..], vec![7, 8]) } else { (&[][..], vec![]) };
+    let mut table = without_points(reference, 0, items, bytes);
+    if mark != 0 {
+        // Under the mark the word is the first count.
+        (table.numbers[row::WORD], table.numbers[row::MARK]) = (0, mark);
+    }
+    let years = [numbers.pick(&SETTINGS), numbers.pick(&SETTINGS)];
+    writes(judge, &plain_head(), &table, &years, numbers);
+}
+
+fn reference_read(judge: &mut Judge, reference: u64, mark: u64, has_item: bool, numbers: &mut Numbers) {
+    let metric: &[u8] = if reference & TEXT_IN_METRIC != 0 { &[0, 0] } else { &[] };
+    let semantics: &[u8] = if has_item { &[6, 0, 2, 0xFF, 7, 8] } else { &[] };
+    let record = row::Record { reference, parts: 1, ..row::Record::default() };
+    let sheet = sheet_with(&record, if mark == 0 { 0 } else { MARK }, metric, semantics);
+    judge.reads_in_place(&sheet, &all(), numbers);
 }
 
 /// An item of this type with each scale, its value as long as it must be.
@@ -193,6 +208,32 @@ fn item(judge: &mut Judge, kind: u8, scale: u8, length: u64, numbers: &mut Numbe
     both(judge, &table, sheet_of(SEMANTICS, &[], &semantics), &[2008, 2017], numbers);
 }
 
+/// Two parts of so many points, without the mark and under it, with a word that
+/// is the first count and with others; and the count of the later part moved up
+/// into N1, which calls for points that are not there.
+fn counts(judge: &mut Judge, count: u8, numbers: &mut Numbers) {
+    // Two elements of two bytes each make a point.
+    let elements = vec![0; 2 * usize::from(count)];
+    let points = vec![0; 2 * elements.len()];
+    let count = u64::from(count);
+    for (mark, word) in [(0, count), (1, count), (1, count + 1), (1, count ^ 1 << 16), (2, count)] {
+        let record = row::Record { word, parts: 2, mark, ..row::Record::default() };
+        let at_30 = if mark == 0 { count } else { MARK };
+        for later in [count, count << 16, count << 24] {
+            let parts = [count, later].map(|points| row::Part { points, text_length: 0 }.numbers());
+            let table = Table {
+                numbers: [&record.numbers()[..], parts.as_flattened()].concat(),
+                elements: [&elements[..], &elements].concat(),
+                bytes: Vec::new(),
+            };
+            // N1 stands before N2.
+            let head = (later as u32).rotate_left(16).to_le_bytes();
+            let metric = [&points[..], &head, &points].concat();
+            both(judge, &table, sheet_with(&record, at_30, &metric, &[]), &[1999, 2004], numbers);
+        }
+    }
+}
+
 /// Writes a table, and reads the sheet that it would be written to if nothing
 /// were refused.
 fn both(judge: &mut Judge, table: &Table, mut sheet: Vec<u8>, years: &[u32], numbers: &mut Numbers) {
@@ -217,7 +258,8 @@ const LABEL: u64 = 3;
 /// length or items.
 fn without_points(reference: u64, text_length: u64, items: &[row::Item], bytes: Vec<u8>) -> Table {
     let count = items.len() as u64;
-    let record = row::Record { code: 1, in_group: 2, group: 3, reference, generalisation: 4, word: 5, parts: 1, items: count };
+    let record =
+        row::Record { code: 1, in_group: 2, group: 3, reference, generalisation: 4, word: 5, parts: 1, items: count, mark: 0 };
     let part = row::Part { points: 0, text_length };
     let mut numbers = [&record.numbers()[..], &part.numbers()].concat();
     numbers.extend(items.iter().flat_map(|item| item.numbers()));
@@ -226,6 +268,13 @@ fn without_points(reference: u64, text_length: u64, items: &[row::Item], bytes: 
 
 /// Sheet P with another record of no points, this metric and this semantics.
 fn sheet_of(reference: u64, metric: &[u8], semantics: &[u8]) -> Vec<u8> {
+    let record = row::Record { reference, parts: 1, ..row::Record::default() };
+    sheet_with(&record, 0, metric, semantics)
+}
+
+/// Sheet P with another record of this reference, word and number of parts, of
+/// these points at +30, this metric and this semantics.
+fn sheet_with(record: &row::Record, points: u64, metric: &[u8], semantics: &[u8]) -> Vec<u8> {
     let mut sheet = sheet_p()[..METRIC].to_vec();
     let total = header::SIZE + metric.len() + semantics.len();
     let mut put = |field: Field, number: u64| {
@@ -234,8 +283,10 @@ fn sheet_of(reference: u64, metric: &[u8], semantics: &[u8]) -> Vec<u8> {
     };
     put(header::TOTAL, total as u64);
     put(header::METRIC, metric.len() as u64);
-    put(header::REFERENCE, reference);
-    put(header::POINTS, 0);
+    put(header::REFERENCE, record.reference);
+    put(header::WORD, record.word);
+    put(header::SUBOBJECTS, record.parts - 1);
+    put(header::POINTS, points);
     sheet.extend_from_slice(metric);
     sheet.extend_from_slice(semantics);
     put_sum_right(&mut sheet);

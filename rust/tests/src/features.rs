@@ -1,5 +1,5 @@
-//! What accepted sheets and tables have in them, so that no feature of
-//! document 01 goes without being accepted.
+//! What accepted sheets and tables have in them, so that no feature of the
+//! documents goes without being accepted.
 
 use crate::tables::{has_text, rows, Row, SPLINE_BIT_6, SPLINE_BIT_7};
 use second::{Head, Table};
@@ -23,9 +23,22 @@ struct Facts<'a> {
     types: [bool; 256],
     /// Bit 0 for one part, bit 1 for several, bit 2 for as many as can be.
     parts: u64,
+    /// A record has the mark.
     marked: bool,
+    /// A record does not have it.
+    unmarked: bool,
+    /// Under the mark a first part has fewer points than need it.
+    small_marked: bool,
+    /// Under the mark a first part has no points.
+    empty_marked: bool,
+    /// A first part has as many points as need the mark.
+    long_shore: bool,
     /// A later part has more points than two bytes count.
     far: bool,
+    /// Such a part stands behind a first one of fewer points than need the mark.
+    long_island: bool,
+    /// Without the mark a later part has as many points as two bytes count.
+    largest_unmarked: bool,
     /// A part has no points.
     pointless: bool,
     /// The lengths of texts.
@@ -35,7 +48,7 @@ struct Facts<'a> {
 type Feature = (&'static str, fn(&Facts) -> bool);
 
 /// The features, and how each is known.
-const FEATURES: [Feature; 66] = [
+const FEATURES: [Feature; 72] = [
     ("no record", |facts| facts.records == 0),
     ("one record", |facts| facts.records == 1),
     ("several records", |facts| facts.records > 1),
@@ -79,7 +92,13 @@ const FEATURES: [Feature; 66] = [
     ("65536 parts", |facts| facts.parts & 4 != 0),
     ("no points", |facts| facts.pointless),
     ("the mark", |facts| facts.marked),
+    ("marked and unmarked records", |facts| facts.marked && facts.unmarked),
+    ("small count under the mark", |facts| facts.small_marked),
+    ("no points under the mark", |facts| facts.empty_marked),
+    ("first part over 65534", |facts| facts.long_shore),
     ("later part over 65535", |facts| facts.far),
+    ("short shore, long island", |facts| facts.long_island),
+    ("later 65535 without the mark", |facts| facts.largest_unmarked),
     ("real", |facts| facts.rest(passport::FLAGS) & 0x18 != 0),
     ("table 5", |facts| facts.rest(passport::FLAGS) & 0x80 != 0),
     ("label coding 0", |facts| facts.rest(passport::LABELS) == 0),
@@ -127,7 +146,13 @@ fn facts<'a>(head: &'a Head, table: &Table) -> Facts<'a> {
         types: [false; 256],
         parts: 0,
         marked: false,
+        unmarked: false,
+        small_marked: false,
+        empty_marked: false,
+        long_shore: false,
         far: false,
+        long_island: false,
+        largest_unmarked: false,
         pointless: false,
         texts: [false; 256],
     };
@@ -156,7 +181,7 @@ impl Facts<'_> {
             65536 => 6,
             _ => 2,
         };
-        self.marked |= row.parts[0][POINTS] >= MARK;
+        self.counts(row);
         let has = |bit: u64| u64::from(reference & bit != 0);
         let shape = has(bits::ELEMENT_SIZE) | has(bits::FLOATING) << 1 | has(bits::THREE_DIMENSIONS) << 2;
         for part in row.parts {
@@ -169,10 +194,24 @@ impl Facts<'_> {
                 self.texts[part.text_length as usize] = true;
             }
         }
-        self.far |= row.parts[1..].iter().any(|part| part[POINTS] > MARK);
         for item in row.items {
             self.types[row::Item::of(item).kind as usize] = true;
         }
+    }
+
+    /// What the counts of points are about the mark.
+    fn counts(&mut self, row: &Row) {
+        let marked = row.record.mark == 1;
+        let first = row.parts[0][POINTS];
+        let largest_later = row.parts[1..].iter().map(|part| part[POINTS]).max().unwrap_or(0);
+        self.marked |= marked;
+        self.unmarked |= !marked;
+        self.small_marked |= marked && first < MARK;
+        self.empty_marked |= marked && first == 0;
+        self.long_shore |= first >= MARK;
+        self.far |= largest_later > MARK;
+        self.long_island |= largest_later > MARK && first < MARK;
+        self.largest_unmarked |= largest_later == MARK && !marked;
     }
 }
 

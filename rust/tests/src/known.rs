@@ -1,6 +1,6 @@
-//! Document 01's own sheets, with the answers it gives for them, and elements,
-//! items and texts whose answers are worked out by hand. Both the archive and
-//! `second` must give these.
+//! Document 01's own sheets, with the answers it gives for them, and document
+//! 02's lake, elements, items and texts whose answers are worked out by hand.
+//! Both the archive and `second` must give these.
 
 use crate::archive;
 use crate::judge::{Care, Judge};
@@ -9,12 +9,12 @@ use second::Refusal;
 use sxf_sys::codings::{DOS, KOI8, WINDOWS};
 use sxf_sys::dimensions::{EAST, HEIGHT, NORTH};
 use sxf_sys::fields::{descriptor, header, passport, Field, START};
-use sxf_sys::reference::{ELEMENT_SIZE, FLOATING, THREE_DIMENSIONS};
-use sxf_sys::refusals::{ASK, NO_CHARACTER, OK, ROOM, SEMANTIC, SHORT, SUM, TABLE, TEXT, TOO_NEW};
+use sxf_sys::reference::{ELEMENT_SIZE, FLOATING, SEMANTICS, THREE_DIMENSIONS};
+use sxf_sys::refusals::{ASK, COUNT, NO_CHARACTER, OK, ROOM, SEMANTIC, SHORT, SUM, TABLE, TEXT, TOO_NEW};
 use sxf_sys::{kinds, row, units, years};
 
 /// How many there are.
-pub const CASES: u64 = 16;
+pub const CASES: u64 = 18;
 
 /// Where the metric of the first record starts.
 pub const METRIC: usize = START + header::SIZE;
@@ -113,17 +113,19 @@ pub fn run(judge: &mut Judge, case: u64) {
         12 => visibilities(judge),
         13 => coordinates(judge),
         14 => values(judge),
-        _ => texts(judge),
+        15 => texts(judge),
+        16 => lake_read(judge),
+        _ => lake_written(judge),
     }
 }
 
 fn table_of_p(judge: &mut Judge) {
     let sheet = sheet_p();
-    let (mut table, mut elements) = ([9; 10], [9; 2]);
+    let (mut table, mut elements) = ([9; 11], [9; 2]);
     let answer = archive::unfold(&sheet, 2017, &mut table, &mut elements, &mut []);
     judge.accepted = answer.number == OK;
     judge.same(|| "P unfolded".into(), answer.number, OK);
-    judge.same(|| "P's numbers".into(), table, [0, 0, 0, 2, 255, 0, 1, 0, 1, 0]);
+    judge.same(|| "P's numbers".into(), table, [0, 0, 0, 2, 255, 0, 1, 0, 0, 1, 0]);
     judge.same(|| "P's elements".into(), elements, [3, 4]);
     if let Ok(reading) = second::read(&sheet, 2017) {
         judge.same(|| "P's numbers by second".into(), &table[..], &reading.table.numbers);
@@ -141,6 +143,7 @@ fn record_of_q(judge: &mut Judge) {
         generalisation: 255,
         parts: 1,
         items: 1,
+        mark: 0,
         points: 1,
         ..archive::Record::default()
     };
@@ -148,6 +151,80 @@ fn record_of_q(judge: &mut Judge) {
     judge.same(|| "Q's record".into(), record, expected);
     judge.record_at(&sheet, 2017, 0);
     judge.record_at(&sheet, 2017, 1);
+}
+
+/// "A lake outline of ten points had an island of 70,000" (document 02, request
+/// 2): 70,000 is 65,536 and 0x1170.
+fn lake() -> Vec<u8> {
+    let mut sheet = sheet_p()[..METRIC].to_vec();
+    sheet.resize(METRIC + 40, 1);
+    sheet.extend_from_slice(&[1, 0, 0x70, 0x11]);
+    sheet.resize(METRIC + 40 + 4 + 280_000, 2);
+    put(&mut sheet, header::TOTAL.at(START), 280_076);
+    put(&mut sheet, header::METRIC.at(START), 280_044);
+    put(&mut sheet, header::WORD.at(START), 10);
+    sheet[header::SUBOBJECTS.at(START).place] = 1;
+    sheet[header::POINTS.at(START).range()].fill(0xFF);
+    put(&mut sheet, passport::SUM, 562_903);
+    sheet
+}
+
+/// The numbers of the lake's table.
+const LAKE: [u64; 13] = [0, 0, 0, 2, 255, 10, 2, 0, 1, 10, 0, 70_000, 0];
+
+fn lake_read(judge: &mut Judge) {
+    let sheet = lake();
+    let mut unmarked = sheet.clone();
+    unmarked[header::POINTS.at(START).range()].copy_from_slice(&[10, 0]);
+    put(&mut unmarked, passport::SUM, 562_403);
+    says(judge, "the lake without the mark", &unmarked, 2017, Err((COUNT, 524, 0)));
+    says(judge, "the lake at 1999", &sheet, 1999, Err((TOO_NEW, 482, years::MARK_65535.into())));
+    says(judge, "the lake", &sheet, 2004, Ok((562_903, 1)));
+    let (mut table, mut elements) = ([9; LAKE.len()], vec![9; 140_020]);
+    let answer = archive::unfold(&sheet, 2017, &mut table, &mut elements, &mut []);
+    judge.same(|| "the lake unfolded".into(), answer.number, OK);
+    judge.same(|| "the lake's numbers".into(), table, LAKE);
+    let record = archive::Record {
+        at: START as u64,
+        total: 280_076,
+        reference: 2,
+        generalisation: 255,
+        word: 10,
+        parts: 2,
+        mark: 1,
+        points: 10,
+        ..archive::Record::default()
+    };
+    judge.same(|| "the lake's record".into(), archive::record_at(&sheet, 2004, 0), record);
+}
+
+fn lake_written(judge: &mut Judge) {
+    let sheet = lake();
+    let Ok(reading) = second::read(&sheet, 2004) else {
+        panic!("the lake is refused");
+    };
+    let mut numbers = Numbers::of_case(0, 0, 0);
+    let table = second::Table { numbers: LAKE.to_vec(), ..reading.table };
+    for (name, index, number, year, due) in [
+        ("as it is", row::MARK, 1, 2004, (OK, 0, 0)),
+        ("at 1999", row::MARK, 1, 1999, (TOO_NEW, 8, years::MARK_65535.into())),
+        ("without the mark", row::MARK, 0, 2004, (COUNT, 11, 0)),
+        ("with the mark 2", row::MARK, 2, 1999, (TABLE, 8, 0)),
+        ("with the word 11", row::WORD, 11, 2004, (COUNT, 9, 0)),
+        ("with 2^32 points of the shore", row::ROW_WIDTH + row::POINTS, 1 << 32, 2004, (TABLE, 9, 0)),
+        // What stands before the mark's number comes first, and what stands after it later.
+        ("with the flag of items at 1999", row::REFERENCE, SEMANTICS | 2, 1999, (TABLE, 7, 0)),
+        ("with 2^32 points at 1999", row::ROW_WIDTH + row::POINTS, 1 << 32, 1999, (TOO_NEW, 8, years::MARK_65535.into())),
+    ] {
+        let mut table = table.clone();
+        table.numbers[index] = number;
+        let mut out = vec![0; sheet.len()];
+        let answer = archive::write(year, &reading.head, &table, &mut out);
+        judge.same(|| format!("the lake {name}"), (answer.number, answer.place, answer.year), due);
+        judge.same(|| format!("the lake {name}, written or not"), out == sheet, due.0 == OK);
+        judge.writes(&reading.head, &table, &[year], &mut numbers);
+    }
+    judge.accepted = true;
 }
 
 fn designation(judge: &mut Judge, length: usize, answer: Result<u64, (u64, u64, u64)>) {

@@ -2,11 +2,12 @@
 
 use crate::heads::{head, SETTINGS};
 use crate::judge::{Care, Judge};
+use crate::large::SHORE;
 use crate::numbers::Numbers;
 use crate::phases::not_before;
 use crate::tables;
 use second::{Head, Table};
-use sxf_sys::fields::{header, item, LIMIT, START};
+use sxf_sys::fields::{header, item, subobject, LIMIT, START};
 use sxf_sys::reference::{ELEMENT_SIZE, FLOATING, SEMANTICS, THREE_DIMENSIONS};
 use sxf_sys::row::{self, ITEMS};
 use sxf_sys::years;
@@ -23,10 +24,12 @@ enum Shape {
     LongItem,
     Items,
     Points,
+    /// The points of an island, behind a shore of a few.
+    Island,
     Records,
 }
 
-const SHAPES: [Shape; 4] = [Shape::LongItem, Shape::Items, Shape::Points, Shape::Records];
+const SHAPES: [Shape; 5] = [Shape::LongItem, Shape::Items, Shape::Points, Shape::Island, Shape::Records];
 
 /// Runs one of them.
 pub fn run(judge: &mut Judge, case: u64, numbers: &mut Numbers) {
@@ -89,7 +92,7 @@ fn at_limit(judge: &mut Judge, numbers: &mut Numbers, shape: Shape, over: usize)
 fn filled(numbers: &mut Numbers, shape: Shape, length: usize) -> (u32, Head, Table) {
     let since = match shape {
         Shape::LongItem => years::TYPE_128,
-        Shape::Points => years::MARK_65535,
+        Shape::Points | Shape::Island => years::MARK_65535,
         Shape::Items | Shape::Records => SETTINGS[0],
     };
     let year = not_before(numbers, since);
@@ -129,6 +132,13 @@ fn fill(table: &mut Table, numbers: &mut Numbers, shape: Shape, about: usize) ->
             let count = about / point;
             tables::record(table, numbers, reference, 0, &[count as u64]);
             header::SIZE + point * count
+        }
+        Shape::Island => {
+            let reference = ELEMENT_SIZE | FLOATING;
+            let point = tables::widths(reference).point();
+            let count = about / point;
+            tables::record(table, numbers, reference, 0, &[SHORE, count as u64]);
+            header::SIZE + subobject::SIZE + point * (SHORE as usize + count)
         }
         Shape::Records => {
             let records = about / header::SIZE;

@@ -177,7 +177,7 @@ fn print_reasons(tally: &Tally) {
     for (reason, met) in &tally.reasons {
         let at = format!("{:?} {:2} {:?}", reason.way, reason.number, reason.at);
         let year = reason.year;
-        println!("{at:24}{year:>5}{met:>8}");
+        println!("{at:40}{year:>5}{met:>8}");
     }
     println!("\ncases in which each feature was accepted");
     for (feature, met) in tally.features.iter().enumerate() {

@@ -19,7 +19,7 @@ use second::{Head, Table};
 /// One kind of cases.
 #[derive(Clone, Copy, PartialEq, Eq, Debug)]
 pub enum Phase {
-    /// Document 01's own sheets.
+    /// The documents' own sheets.
     Known,
     /// What each generalisation byte says under one byte of flags.
     Visibility,

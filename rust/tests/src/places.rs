@@ -3,7 +3,7 @@
 use crate::tables::{closing_zeros, has_text, rows, widths, Row};
 use second::Table;
 use sxf_sys::fields::{descriptor, header, item, passport, subobject, Field, START};
-use sxf_sys::row;
+use sxf_sys::row::{self, POINTS};
 
 /// What stands in a field.
 #[derive(Clone, Copy, PartialEq, Eq, Debug)]
@@ -50,12 +50,14 @@ pub struct Spot {
     pub field: Field,
 }
 
-/// Where a record starts, where its metric ends, and where it ends.
+/// Where a record starts, where its metric ends, and where it ends; and how
+/// many points its first part has.
 #[derive(Clone, Copy, Debug)]
 pub struct Bounds {
     pub at: usize,
     pub metric_end: usize,
     pub end: usize,
+    pub points: u32,
 }
 
 /// All fields of a sheet, in order, and the bounds of its records.
@@ -154,7 +156,7 @@ impl Walk<'_> {
         for item in row.items {
             self.item(&row::Item::of(item));
         }
-        Bounds { at, metric_end, end: self.at }
+        Bounds { at, metric_end, end: self.at, points: row.parts[0][POINTS] as u32 }
     }
 
     fn item(&mut self, item: &row::Item) {

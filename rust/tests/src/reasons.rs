@@ -4,7 +4,8 @@ use crate::tally::{Reason, Way, Where};
 use second::{Head, Refusal, Table};
 use sxf_sys::fields::{header, Field, START};
 use sxf_sys::refusals::{ASK, LEFT_OVER, LENGTH, ROOM, TOO_LONG};
-use sxf_sys::row::{ITEMS, ITEM_WIDTH, PARTS, PART_WIDTH, POINTS, ROW_WIDTH};
+use sxf_sys::row::{self, ITEMS, ITEM_WIDTH, PARTS, PART_WIDTH, POINTS, ROW_WIDTH};
+use sxf_sys::MARK;
 
 /// The reason for a sheet's refusal.
 pub fn of_sheet(sheet: &[u8], refusal: Refusal) -> Reason {
@@ -33,10 +34,11 @@ fn in_records(sheet: &[u8], place: usize, refusal: u64) -> Where {
     }
     let metric = at + header::SIZE;
     let metric_end = metric + number(header::METRIC.at(at));
+    let marked = number(header::POINTS.at(at)) as u64 == MARK;
     if place < metric {
         Where::Header(place - at)
     } else if place < metric_end {
-        Where::Metric
+        Where::Metric { marked }
     } else if place == metric_end {
         Where::MetricEnd
     } else {
@@ -68,12 +70,13 @@ fn in_table(numbers: &[u64], index: usize) -> Where {
         // and those before it are whole.
         let parts_at = row + ROW_WIDTH;
         let items_at = parts_at + PART_WIDTH * numbers[row + PARTS] as usize;
+        let marked = numbers[row + row::MARK] == 1;
         row = items_at + ITEM_WIDTH * numbers[row + ITEMS] as usize;
         if index < items_at {
             let in_parts = index - parts_at;
             return match (in_parts, in_parts % PART_WIDTH) {
-                (POINTS, _) => Where::FirstPoints,
-                (_, POINTS) => Where::LaterPoints,
+                (POINTS, _) => Where::FirstPoints { marked },
+                (_, POINTS) => Where::LaterPoints { marked },
                 _ => Where::TextLength,
             };
         }

@@ -255,7 +255,8 @@ impl Damaged<'_> {
         self.note(format!("in the record at {}: total goes along: {total_goes}, metric: {metric_goes}", record.at));
     }
 
-    /// The mark, with a word that may be a count.
+    /// The mark put or taken away, with a word that is the first count, one
+    /// about it, or another.
     fn mark(&mut self, numbers: &mut Numbers) {
         let Some(record) = self.a_record(numbers) else {
             return self.end(numbers);
@@ -264,9 +265,11 @@ impl Damaged<'_> {
             return;
         }
         const THE_MARK: u16 = MARK as u16;
-        let any = numbers.any() as u32;
-        let word = numbers.pick(&[0, 65534, 65535, 65536, u32::MAX, any, any & 0xFFFF]);
-        let points = numbers.pick(&[THE_MARK - 1, THE_MARK, THE_MARK, THE_MARK]);
+        let (count, any) = (record.points, numbers.any() as u32);
+        let about = [count, count.wrapping_add(1), count.wrapping_sub(1), count ^ 1 << 16, count ^ 1 << 31];
+        let other = [0, 65534, 65535, 65536, u32::MAX, any, any & 0xFFFF];
+        let word = if numbers.chance(1, 2) { numbers.pick(&about) } else { numbers.pick(&other) };
+        let points = numbers.pick(&[count as u16, THE_MARK - 1, THE_MARK, THE_MARK, THE_MARK]);
         self.put(header::POINTS.at(record.at), &points.to_le_bytes());
         self.put(header::WORD.at(record.at), &word.to_le_bytes());
         self.note(format!("{points} points and the word {word} at {}", record.at));

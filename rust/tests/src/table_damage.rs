@@ -8,7 +8,7 @@ use sxf_sys::fields::passport::{ACCURACY, EAST, EPSG, FLAGS, LABELS, NORTH, REST
 use sxf_sys::fields::{descriptor, passport};
 use sxf_sys::reference as bits;
 use sxf_sys::row::{
-    CODE, GENERALISATION, GROUP, IN_GROUP, ITEMS, ITEM_LENGTH, ITEM_SCALE, ITEM_TYPE, ITEM_WIDTH, PARTS, PART_WIDTH, POINTS,
+    CODE, GENERALISATION, GROUP, IN_GROUP, ITEMS, ITEM_LENGTH, ITEM_SCALE, ITEM_TYPE, ITEM_WIDTH, MARK, PARTS, PART_WIDTH, POINTS,
     REFERENCE, ROW_WIDTH, WORD,
 };
 
@@ -143,8 +143,8 @@ fn alter_number(numbers: &mut Numbers, number: u64) -> u64 {
 }
 
 /// The numbers of a record, the reference bytes as likely as four others.
-const COLUMNS: [usize; 11] =
-    [CODE, IN_GROUP, GROUP, REFERENCE, REFERENCE, REFERENCE, REFERENCE, GENERALISATION, WORD, PARTS, ITEMS];
+const COLUMNS: [usize; 12] =
+    [CODE, IN_GROUP, GROUP, REFERENCE, REFERENCE, REFERENCE, REFERENCE, GENERALISATION, WORD, PARTS, ITEMS, MARK];
 
 /// One number of the table: a record's own, one of its parts and one of its
 /// items are as likely as each other.
@@ -167,6 +167,8 @@ fn number_damage(numbers: &mut Numbers, table: &mut Table, rows: &[usize]) -> St
     let is_item = |column: usize| in_items.is_some_and(|within| within % ITEM_WIDTH == column);
     let new = if at == row + REFERENCE && numbers.chance(2, 3) {
         alter_reference(numbers, number)
+    } else if at == row + MARK && numbers.chance(2, 3) {
+        alter_mark(numbers, number)
     } else if is_item(ITEM_TYPE) && numbers.chance(3, 4) {
         let any = numbers.below(256);
         numbers.pick(&[0, 1, 2, 3, 4, 8, 126, 127, 128, any])
@@ -186,6 +188,12 @@ fn alter_reference(numbers: &mut Numbers, reference: u64) -> u64 {
     let (one, other) = (1 << numbers.below(24), 1 << numbers.below(24));
     let any = numbers.any() & 0xFF_FFFF;
     reference ^ numbers.pick(&[one, one | other, any, bits::BINDING_VECTOR, bits::GRAPHICS])
+}
+
+/// The mark dropped or raised, or a number that is none.
+fn alter_mark(numbers: &mut Numbers, mark: u64) -> u64 {
+    let even = numbers.any() << 1;
+    numbers.pick(&[mark ^ 1, mark ^ 1, mark ^ 1, 2, 3, 1 << 32, 1 << 32 | 1, even, u64::MAX])
 }
 
 /// Counts of parts and items near 2^64, and such that what they call for
@@ -218,22 +226,27 @@ fn counts_damage(numbers: &mut Numbers, table: &mut Table, rows: &[usize]) -> St
     format!("row {row}: {} parts, {} items", columns[PARTS], columns[ITEMS])
 }
 
-/// Counts of points about the mark, and words that agree or do not.
+/// Counts of points about the mark or as they were, words that agree or do not,
+/// and the mark as it was, there, gone or none.
 fn mark_damage(numbers: &mut Numbers, table: &mut Table, rows: &[usize]) -> String {
     let row = numbers.pick(rows);
     if table.numbers.len() < row + ROW_WIDTH + PART_WIDTH {
         return "none".into();
     }
     let parts = table.numbers[row + PARTS].clamp(1, 100_000) as usize;
-    let count = numbers.pick(&[65534, 65535, 65536, 131_072, 0xFFFF_FFFF, 1 << 32]);
     let part = if numbers.chance(2, 3) { 0 } else { numbers.index(parts) };
     let at = row + ROW_WIDTH + PART_WIDTH * part + POINTS;
+    let mut count = numbers.pick(&[65534, 65535, 65536, 131_072, 0xFFFF_FFFF, 1 << 32]);
     if let Some(points) = table.numbers.get_mut(at) {
+        count = numbers.pick(&[*points, count, count]);
         *points = count;
     }
-    let word = table.numbers[row + WORD];
-    table.numbers[row + WORD] = numbers.pick(&[word, count, count, count + 1, count - 1]);
-    format!("points {count} at {at}, the word {}", table.numbers[row + WORD])
+    let (word, mark) = (table.numbers[row + WORD], table.numbers[row + MARK]);
+    let word = numbers.pick(&[word, count, count, count.wrapping_add(1), count.wrapping_sub(1)]);
+    let none = alter_mark(numbers, mark);
+    let mark = numbers.pick(&[mark, mark, 1, 1, 1, 0, none]);
+    (table.numbers[row + WORD], table.numbers[row + MARK]) = (word, mark);
+    format!("points {count} at {at}, the word {word}, the mark {mark}")
 }
 
 fn cut_damage(numbers: &mut Numbers, table: &mut Table) -> String {

@@ -58,13 +58,23 @@ pub fn table(numbers: &mut Numbers, year: u32, sizes: Sizes) -> Table {
         let points = (0..parts).map(|_| numbers.mostly(sizes.points, 4 * sizes.points)).collect::<Vec<_>>();
         let items = numbers.below(1 + sizes.items);
         let reference = reference(numbers, year, items != 0);
-        let word = numbers.of_bits(32);
-        record(&mut table, numbers, reference, word, &points);
+        if has_mark(numbers, year) {
+            marked_record(&mut table, numbers, reference, &points);
+        } else {
+            let word = numbers.of_bits(32);
+            record(&mut table, numbers, reference, word, &points);
+        }
         for _ in 0..items {
             item(&mut table, numbers, year);
         }
     }
     table
+}
+
+/// Whether a record that is made for `year` has the mark, needed or not: about
+/// one record of seven.
+fn has_mark(numbers: &mut Numbers, year: u32) -> bool {
+    years::MARK_65535 <= year && numbers.chance(1, 7)
 }
 
 /// The spline is bits 6 and 7 of byte 22, and each is drawn by itself.
@@ -94,21 +104,40 @@ pub fn reference(numbers: &mut Numbers, year: u32, semantics: bool) -> u64 {
 }
 
 /// Adds a record's row and its parts with these counts of points; items are
-/// to follow. Where the first count needs the mark, the word is that count.
+/// to follow. It has the mark only where a count needs it, and then the word is
+/// the first count.
 pub fn record(table: &mut Table, numbers: &mut Numbers, reference: u64, word: u64, points: &[u64]) {
-    let record = row::Record {
+    if needs_mark(points) {
+        marked_record(table, numbers, reference, points);
+    } else {
+        with_parts(table, numbers, row::Record { reference, word, ..row::Record::default() }, points);
+    }
+}
+
+/// Adds the same under the mark, whatever the counts are.
+pub fn marked_record(table: &mut Table, numbers: &mut Numbers, reference: u64, points: &[u64]) {
+    with_parts(table, numbers, row::Record { reference, word: points[0], mark: 1, ..row::Record::default() }, points);
+}
+
+/// Whether a count needs the mark: "a first count over 65534 needs mark 1", and
+/// so does "a later count over 65535" (document 02, request 2).
+fn needs_mark(points: &[u64]) -> bool {
+    points[0] >= MARK || points[1..].iter().any(|&count| count > MARK)
+}
+
+/// Adds a row with this record's reference, word and mark, and its parts.
+fn with_parts(table: &mut Table, numbers: &mut Numbers, record: row::Record, points: &[u64]) {
+    let row = row::Record {
         code: numbers.of_bits(32),
         in_group: numbers.of_bits(16),
         group: numbers.of_bits(16),
-        reference,
         generalisation: numbers.of_bits(8),
-        word: if points[0] >= MARK { points[0] } else { word },
         parts: points.len() as u64,
-        items: 0,
+        ..record
     };
-    table.numbers.extend(record.numbers());
+    table.numbers.extend(row.numbers());
     for &count in points {
-        part(table, numbers, reference, count);
+        part(table, numbers, record.reference, count);
     }
 }
 
@@ -205,4 +234,24 @@ fn bytes(numbers: &mut Numbers, length: u64) -> Vec<u8> {
     let mask = numbers.pick(&[0xFF, 0xFF, 0x3F, 0x01, 0x00]);
     bytes.iter_mut().for_each(|byte| *byte &= mask);
     bytes
+}
+
+#[cfg(test)]
+mod tests {
+    use super::*;
+    use crate::sheets::setting;
+
+    #[test]
+    fn about_one_record_of_seven_has_the_mark() {
+        let (mut records, mut marked) = (0, 0);
+        for case in 0..10_000 {
+            let numbers = &mut Numbers::of_case(1, 0, case);
+            let (year, sizes) = (setting(numbers), small(numbers));
+            for row in rows(&table(numbers, year, sizes)) {
+                records += 1;
+                marked += row.record.mark;
+            }
+        }
+        assert!((6..9).contains(&(records / marked)), "{marked} of {records}");
+    }
 }

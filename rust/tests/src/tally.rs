@@ -73,8 +73,8 @@ pub enum Where {
     Head(usize),
     /// At this byte of a record's header.
     Header(usize),
-    /// Within a record's metric.
-    Metric,
+    /// Within the metric of a record, with the mark or without.
+    Metric { marked: bool },
     /// Where a record's metric ends.
     MetricEnd,
     /// Within a record's semantics.
@@ -83,10 +83,10 @@ pub enum Where {
     After,
     /// At this column of a record's row.
     Row(usize),
-    /// At the points of a first part.
-    FirstPoints,
-    /// At the points of a later part.
-    LaterPoints,
+    /// At the points of a first part, under the mark or not.
+    FirstPoints { marked: bool },
+    /// At the points of a later part, under the mark or not.
+    LaterPoints { marked: bool },
     /// At a text length.
     TextLength,
     /// At this column of an item.
@@ -300,9 +300,17 @@ pub fn due() -> Vec<Reason> {
 }
 
 use Where::{
-    After, Asked, FirstCharacter, FirstPoints, Head, Header, InnerCharacter, Item, LastCharacter, LaterPoints, Lent, Metric,
-    MetricEnd, Row, Semantics, TableEnd, TextLength,
+    After, Asked, FirstCharacter, Head, Header, InnerCharacter, Item, LastCharacter, Lent, MetricEnd, Row, Semantics, TableEnd,
+    TextLength,
 };
+
+/// The places that a record may have with the mark or without it.
+const METRIC: Where = Where::Metric { marked: false };
+const MARKED_METRIC: Where = Where::Metric { marked: true };
+const FIRST_POINTS: Where = Where::FirstPoints { marked: false };
+const MARKED_FIRST_POINTS: Where = Where::FirstPoints { marked: true };
+const LATER_POINTS: Where = Where::LaterPoints { marked: false };
+const MARKED_LATER_POINTS: Where = Where::LaterPoints { marked: true };
 
 /// The texts, and what is carried: reader and writer refuse the same.
 const OF_HEADS: [Stated; 6] = [
@@ -343,7 +351,7 @@ const OF_READING: [Stated; 22] = [
     (NOT_SXF, 0, &[Head(passport::IDENTIFIER.place), Head(descriptor::IDENTIFIER.place), Header(header::IDENTIFIER.place)]),
     (EDITION, 0, &[Head(passport::OWN_LENGTH.place), Head(passport::EDITION.place), Head(descriptor::OWN_LENGTH.place)]),
     (SUM, 0, &[Head(passport::SUM.place)]),
-    (TEXT, 0, &[Metric, Semantics]),
+    (TEXT, 0, &[METRIC, MARKED_METRIC, Semantics]),
     (RESERVED, 0, &[Head(descriptor::RESERVED.place), Header(header::BYTE20.place), Header(header::BYTE22.place)]),
     (TOO_NEW, years::MULTIPOLYGON, &[Header(header::BYTE20.place)]),
     (TOO_NEW, years::UNICODE, &[Header(header::BYTE21.place)]),
@@ -354,8 +362,8 @@ const OF_READING: [Stated; 22] = [
     (TOO_NEW, years::MARK_65535, &[Header(header::POINTS.place)]),
     (TOO_NEW, years::TYPE_128, &[Semantics]),
     (NOT_CARRIED, 0, &[Header(header::BYTE21.place), Header(header::BYTE22.place)]),
-    (LENGTH, 0, &[Header(header::TOTAL.place), Header(header::METRIC.place), Metric, MetricEnd, Semantics]),
-    (COUNT, 0, &[Header(header::WORD.place), Metric]),
+    (LENGTH, 0, &[Header(header::TOTAL.place), Header(header::METRIC.place), METRIC, MARKED_METRIC, MetricEnd, Semantics]),
+    (COUNT, 0, &[METRIC]),
     (SEMANTIC, 0, &[Semantics]),
     (LEFT_OVER, 0, &[After]),
     (ROOM, 0, &[Lent(1), Lent(2), Lent(3)]),
@@ -381,10 +389,10 @@ const OF_WRITING: [Stated; 20] = [
     (TOO_NEW, years::COMPRESSED_GRAPHICS, &[Row(row::REFERENCE)]),
     (TOO_NEW, years::MULTIPOLYGON, &[Row(row::REFERENCE)]),
     (TOO_NEW, years::VERTICAL_ALIGNMENT, &[Row(row::REFERENCE)]),
-    (TOO_NEW, years::MARK_65535, &[FirstPoints]),
+    (TOO_NEW, years::MARK_65535, &[Row(row::MARK)]),
     (TOO_NEW, years::TYPE_128, &[Item(row::ITEM_TYPE)]),
     (NOT_CARRIED, 0, &[Row(row::REFERENCE)]),
-    (COUNT, 0, &[FirstPoints, LaterPoints]),
+    (COUNT, 0, &[FIRST_POINTS, MARKED_FIRST_POINTS, LATER_POINTS]),
     (SEMANTIC, 0, &[Item(row::ITEM_TYPE), Item(row::ITEM_SCALE), Item(row::ITEM_LENGTH)]),
     (
         TABLE,
@@ -398,9 +406,10 @@ const OF_WRITING: [Stated; 20] = [
             Row(row::WORD),
             Row(row::PARTS),
             Row(row::ITEMS),
+            Row(row::MARK),
         ],
     ),
-    (TABLE, 0, &[FirstPoints, LaterPoints, TextLength]),
+    (TABLE, 0, &[FIRST_POINTS, MARKED_FIRST_POINTS, LATER_POINTS, MARKED_LATER_POINTS, TextLength]),
     (TABLE, 0, &[Item(row::ITEM_CODE), Item(row::ITEM_TYPE), Item(row::ITEM_SCALE), Item(row::ITEM_LENGTH)]),
     (TABLE, 0, &[TableEnd]),
     (ROOM, 0, &[Asked]),

@@ -26,11 +26,11 @@ abbrev rooms : ℕ → ℕ → ℕ → Rooms
 rooms n e b = record { numbers = n; elements = e; bytes = b }
 
 -- "ROOM has place 1, 2 or 3 for the first too small"; a sheet's own refusal comes first, then a record number asked for
-calls : (unfolded 2017 sheetQ (rooms 13 1 1) ≡ refused ROOM 1 0)
-    × (unfolded 2017 sheetQ (rooms 14 1 1) ≡ refused ROOM 2 0)
-    × (unfolded 2017 sheetQ (rooms 14 2 1) ≡ refused ROOM 3 0)
+calls : (unfolded 2017 sheetQ (rooms 14 1 1) ≡ refused ROOM 1 0)
+    × (unfolded 2017 sheetQ (rooms 15 1 1) ≡ refused ROOM 2 0)
+    × (unfolded 2017 sheetQ (rooms 15 2 1) ≡ refused ROOM 3 0)
     × (unfolded 2017 (sheet 796 0 []) (rooms 0 0 0) ≡ refused SUM 12 0)
-    × (checkedOf (reading 2017 sheetQ) ≡ Checked.Accepted (record { sum = 2384; records = 1; numbers = 14; elements = 2; bytes = 2 }))
+    × (checkedOf (reading 2017 sheetQ) ≡ Checked.Accepted (record { sum = 2384; records = 1; numbers = 15; elements = 2; bytes = 2 }))
     × (checkedOf (reading 2017 (sheet 796 0 [])) ≡ Checked.Refused (record { number = 5; place = 12; year = 0 }))
     × (asked 2017 (sheet 796 0 []) 7 ≡ refused SUM 12 0)
     × (asked 2017 sheetP 1 ≡ refused ASK 0 0)
@@ -40,8 +40,20 @@ calls = (refl, refl, refl, refl, refl, refl, refl, refl, refl)
 
 -- Q's record as the third, behind two of P's
 found : foundOf (asked 2017 (sealed (sheet 0 3 (point 2 0 36 [] ++ point 2 0 36 [] ++ point 2 2 42 (1 ∷ 0 ∷ 2 ∷ 255 ∷ 249 ∷ 4 ∷ [])))) 2)
-    ≡ Found.Record (record
-    { place = 524; total = 42; code = 0; «in_group» = 0; group = 0; reference = 514; generalisation = 255; word = 0; parts = 1; items = 1; points = 1 })
+    ≡ Found.Record (record {
+      place = 524;
+      total = 42;
+      code = 0;
+      «in_group» = 0;
+      group = 0;
+      reference = 514;
+      generalisation = 255;
+      word = 0;
+      parts = 1;
+      items = 1;
+      mark = 0;
+      points = 1;
+    })
 unfolding computing
 found = refl
 
@@ -94,19 +106,19 @@ sheetR = sealed (sheet 0 2 (rich ++ point 2 0 36 []))
 abbrev tableR : Table
 tableR =
     table
-    ((7 ∷ 1 ∷ 2 ∷ 918019 ∷ 0x24 ∷ 9 ∷ 2 ∷ 8 ∷ [])
+    ((7 ∷ 1 ∷ 2 ∷ 918019 ∷ 0x24 ∷ 9 ∷ 2 ∷ 8 ∷ 0 ∷ [])
     ++ (1 ∷ 2 ∷ 0 ∷ 0 ∷ [])
     ++ (1 ∷ 0 ∷ 1 ∷ 2 ∷ 2 ∷ 126 ∷ 0 ∷ 1 ∷ 3 ∷ 127 ∷ 0 ∷ 2 ∷ 4 ∷ 1 ∷ 0 ∷ 1 ∷ 5 ∷ 2 ∷ 1 ∷ 2 ∷ 6 ∷ 4 ∷ 2 ∷ 4 ∷ 7 ∷ 8 ∷ 128 ∷ 8 ∷ 8 ∷ 128 ∷ 255 ∷ 4 ∷ [])
-    ++ (0 ∷ 0 ∷ 0 ∷ 2 ∷ 255 ∷ 0 ∷ 1 ∷ 0 ∷ 1 ∷ 0 ∷ []))
+    ++ (0 ∷ 0 ∷ 0 ∷ 2 ∷ 255 ∷ 0 ∷ 1 ∷ 0 ∷ 0 ∷ 1 ∷ 0 ∷ []))
     (1 ∷ 2 ∷ 3 ∷ 3 ∷ 4 ∷ [])
     -- the text, and the values in order
     ((0x41 ∷ 0x42 ∷ [])
     ++ (0x41 ∷ 0 ∷ 0 ∷ 0 ∷ 0 ∷ 5 ∷ 6 ∷ 7 ∷ 8 ∷ 9 ∷ 10 ∷ 11 ∷ 1 ∷ 2 ∷ 3 ∷ 4 ∷ 5 ∷ 6 ∷ 7 ∷ 8 ∷ 0x42 ∷ 0 ∷ 0 ∷ 0 ∷ []))
 
-both-ways : (unfolded 2017 sheetR (rooms 54 5 26) ≡ given tableR)
+both-ways : (unfolded 2017 sheetR (rooms 56 5 26) ≡ given tableR)
     × (written 2017 (headOf (0x41 ∷ [])) tableR 602 ≡ given sheetR)
-    × (unfolded 2008 sheetR (rooms 54 5 26) ≡ refused TOO-NEW 556 2012)
-    × (written 2008 (headOf (0x41 ∷ [])) tableR 602 ≡ refused TOO-NEW 41 2012)
+    × (unfolded 2008 sheetR (rooms 56 5 26) ≡ refused TOO-NEW 556 2012)
+    × (written 2008 (headOf (0x41 ∷ [])) tableR 602 ≡ refused TOO-NEW 42 2012)
 unfolding computing
 both-ways = (refl, refl, refl, refl)
 

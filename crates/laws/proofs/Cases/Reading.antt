@@ -81,10 +81,10 @@ records : (P 2017 440 (2 ∷ []) ≡ refused SHORT 488 0)
     × (P 2017 474 (8 ∷ []) ≡ refused RESERVED 474 0)
     × (P 1999 474 (64 ∷ []) ≡ refused TOO-NEW 474 2004)
     × (P 2017 474 (16 ∷ []) ≡ refused NOT-CARRIED 474 0)
-    -- the mark: of 2004, at +30; a word too small, at +24; a count that no metric has
+    -- the mark: of 2004, at +30; "under the mark any count in the word is good" (02, 2), if the metric has so many points
     × (P 1999 482 (0xFF ∷ 0xFF ∷ []) ≡ refused TOO-NEW 482 2004)
-    × (P 2017 482 (0xFF ∷ 0xFF ∷ []) ≡ refused COUNT 476 0)
-    × (P 2017 476 (0xFE ∷ 0xFF ∷ 0 ∷ 0 ∷ 0 ∷ 0 ∷ 0xFF ∷ 0xFF ∷ []) ≡ refused COUNT 476 0)
+    × (P 2017 482 (0xFF ∷ 0xFF ∷ []) ≡ refused LENGTH 484 0)
+    × (P 2017 476 (0xFE ∷ 0xFF ∷ 0 ∷ 0 ∷ 0 ∷ 0 ∷ 0xFF ∷ 0xFF ∷ []) ≡ refused LENGTH 484 0)
     × (P 2017 476 (0xFF ∷ 0xFF ∷ 0xFF ∷ 0xFF ∷ 0 ∷ 0 ∷ 0xFF ∷ 0xFF ∷ []) ≡ refused LENGTH 484 0)
     -- the second record, where the first is P's
     × (reading 2017 (sealed (sheet 0 2 (point 2 0 36 [] ++ point 6 0 36 []))) ≡ refused RESERVED 508 0)

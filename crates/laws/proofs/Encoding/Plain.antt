@@ -97,7 +97,7 @@ header-plain r metric semantics =
     ⊹ stored-plain Header.generalisation (r .generalisation)
     ⊹ stored-plain Header.word (r .word)
     ⊹ stored-plain Header.subobjects (length (r .subobjects))
-    ⊹ stored-plain Header.points (pointsOf (r .first .points))
+    ⊹ stored-plain Header.points (pointsOf (r .mark) (r .first .points))
 
 pub record-plain : (r : Record) → FineRecord r → Plain (encodeRecord r)
 unfolding encodeRecord encodeMetric encodeSemantics

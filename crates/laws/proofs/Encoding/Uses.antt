@@ -6,7 +6,7 @@ use Prim.Native.Nat.{ℕ}
 use Rattle.layout.specs.Bytes.{flat}
 use Rattle.layout.specs.Layout.Uses.{itemYears, recordYears, years}
 use Rattle.layout.specs.Shared.Carried.{restChecks, carriedChecks}
-use Rattle.layout.specs.Shared.Mark.{takesMark}
+use Rattle.layout.specs.Shared.Mark.{hasMark}
 use Rattle.layout.specs.Shared.Reference.{referenceChecks}
 use Rattle.layout.specs.Sheet.{Record, Sheet}
 use Rattle.layout.specs.Walk.{yearsOf}
@@ -19,11 +19,11 @@ markYears marked = cond marked (since mark-65535 ∷ []) []
 
 pub record-uses : (al : ℕ → Bool) (r : Record)
     → Allowed al (recordYears r)
-    ↔ (Allowed al (yearsOf (referenceChecks 20 21 22 (r .reference))) × Allowed al (markYears (takesMark (r .first .points)))
+    ↔ (Allowed al (yearsOf (referenceChecks 20 21 22 (r .reference))) × Allowed al (markYears (hasMark (r .mark)))
     × Allowed al (flat itemYears (r .items)))
 unfolding recordYears
 record-uses al r =
-    allowed-three al (yearsOf (referenceChecks 20 21 22 (r .reference))) (markYears (takesMark (r .first .points))) (flat itemYears (r .items))
+    allowed-three al (yearsOf (referenceChecks 20 21 22 (r .reference))) (markYears (hasMark (r .mark))) (flat itemYears (r .items))
 
 pub sheet-uses : (al : ℕ → Bool) (u : Sheet)
     → Allowed al (years u)

@@ -1,10 +1,10 @@
 -- A record is read exactly as it is written.
-use mathlib.Core.Bool.{Bool, true, false, not, _||_, cond}
+use mathlib.Core.Bool.{Bool, true, false, cond}
 use mathlib.Core.List.{List, [], _∷_, _++_, append-assoc}
 use mathlib.Core.Path.{_≡_, refl, ap, ap₂, sym, _∙_, subst}
 use Prim.Native.Nat.{ℕ, _+_, _-_, _^_, _≤_, _<_}
-use borrow.Author.Tests.{leb-true, le-leb, leb-false, lt-leb, eqb-true, eq-eqb, ne-eqb, eqb-false}
-use lib.Dec.{eqb, leb}
+use borrow.Author.Tests.{leb-true, le-leb, ltb-true, lt-ltb, eqb-true, eq-eqb, ne-eqb, eqb-false}
+use lib.Dec.{eqb, leb, ltb}
 use lib.ListN.{length, take, drop, length-append, length-drop, take-append-drop}
 use lib.Seq.{take-append-seam, drop-append-seam, length-take-le}
 use native.Mathlib.Omega.{arith}
@@ -15,9 +15,10 @@ use Rattle.layout.specs.Layout.Fine.{FineItem, FineSubobject, FineRecord}
 use Rattle.layout.specs.Layout.Uses.{itemYears, recordYears}
 use Rattle.layout.specs.Reading.Items.{itemWalk}
 use Rattle.layout.specs.Reading.Parts.{metricWalk}
-use Rattle.layout.specs.Reading.Records.{Header, headerIn, metricIn, semanticsIn, lengthChecks, countChecks, headerWalk, bodyWalk, recordWith, recordWalk}
+use Rattle.layout.specs.Reading.Records.{Header, headerIn, metricIn, semanticsIn, recordFrom}
+use Rattle.layout.specs.Reading.Records.{lengthChecks, countChecks, headerWalk, bodyWalk, recordWith, recordWalk}
 use Rattle.layout.specs.Refusals.{SHORT, LENGTH}
-use Rattle.layout.specs.Shared.Mark.{mark, isMark, firstCount, takesMark, pointsOf}
+use Rattle.layout.specs.Shared.Mark.{mark, isMark, firstCount, markOf, hasMark, pointsOf, goodFirst}
 use Rattle.layout.specs.Shared.Reference.{referenceChecks, semantics}
 use Rattle.layout.specs.Sheet.{Item, Part, Record}
 use Rattle.layout.specs.Walk.{Walk, answer, given, _>>=_, _>>_, must, checks, holds, ends, Piece, piece, Pair, fill}
@@ -31,33 +32,32 @@ use Rattle.laws.proofs.Reading.Items.{item-reads, item-grows}
 use Rattle.laws.proofs.Reading.Parts.{FineMetric, metricOf, metric-fills}
 
 -- the mark, by the points and the word that stand in a header
-mark-back : (points word : ℕ) → points < 65536 → (not (isMark points) || leb mark word) ≡ true
-    → (pointsOf (firstCount points word) ≡ points) × (takesMark (firstCount points word) ≡ isMark points)
-    × ((not (takesMark (firstCount points word)) || eqb word (firstCount points word)) ≡ true)
-mark-back points word h e = go (isMark points) refl e
+mark-back : (points word : ℕ) → points < 65536
+    → (pointsOf (markOf points) (firstCount points word) ≡ points) × (hasMark (markOf points) ≡ isMark points)
+    × (goodFirst (markOf points) word (firstCount points word) ≡ true) × (markOf points ≤ 1)
+mark-back points word h = go (isMark points) refl
   where
-    go : (b : Bool) → isMark points ≡ b → (not b || leb mark word) ≡ true
-        → (pointsOf (cond b word points) ≡ points) × (takesMark (cond b word points) ≡ b)
-        × ((not (takesMark (cond b word points)) || eqb word (cond b word points)) ≡ true)
-    go true m k = (rw k (sym (eqb-true points mark m)), k, rw k (eq-eqb word word refl))
-    go false m k =
-        let l : leb mark points ≡ false = lt-leb mark points (omega (arith, eqb-false points mark m)) in
-        (rw l, l, rw l)
+    go : (b : Bool) → isMark points ≡ b
+        → (pointsOf (cond b 1 0) (cond b word points) ≡ points) × (hasMark (cond b 1 0) ≡ b)
+        × (goodFirst (cond b 1 0) word (cond b word points) ≡ true) × (cond b 1 0 ≤ 1)
+    go true m = (sym (eqb-true points mark m), refl, eq-eqb word word refl, omega arith)
+    go false m = (refl, refl, lt-ltb points mark (omega (arith, eqb-false points mark m)), omega arith)
 
--- the same by the first count of a fine record
-pub mark-on : (count word : ℕ) → (not (takesMark count) || eqb word count) ≡ true
-    → (firstCount (pointsOf count) word ≡ count) × (isMark (pointsOf count) ≡ takesMark count)
-    × ((not (isMark (pointsOf count)) || leb mark word) ≡ true) × (pointsOf count < 65536)
-mark-on count word e = go (takesMark count) refl e
+-- the same by the mark and the first count of a fine record
+pub mark-on : (number count word : ℕ) → number ≤ 1 → goodFirst number word count ≡ true
+    → (firstCount (pointsOf number count) word ≡ count) × (isMark (pointsOf number count) ≡ hasMark number)
+    × (markOf (pointsOf number count) ≡ number) × (pointsOf number count < 65536)
+mark-on number count word small e = go (hasMark number) refl e
   where
-    go : (b : Bool) → takesMark count ≡ b → (not b || eqb word count) ≡ true
+    go : (b : Bool) → hasMark number ≡ b → cond b (eqb word count) (ltb count mark) ≡ true
         → (firstCount (cond b mark count) word ≡ count) × (isMark (cond b mark count) ≡ b)
-        × ((not (isMark (cond b mark count)) || leb mark word) ≡ true) × (cond b mark count < 65536)
-    go true m k = let q : word ≡ count = eqb-true word count k in (q, refl, rw q m, omega arith)
+        × (markOf (cond b mark count) ≡ number) × (cond b mark count < 65536)
+    go true m k = (eqb-true word count k, refl, sym (eqb-true number 1 m), omega arith)
     go false m k =
-        let small : count < mark = leb-false mark count m in
+        let under : count < mark = ltb-true count mark k in
         let l : isMark count ≡ false = ne-eqb count mark (λ q. omega arith) in
-        (rw l, l, rw l, omega arith)
+        let none : 0 ≡ number = omega (arith, eqb-false number 1 m) in
+        (rw l, l, rw l none, omega arith)
 
 -- the header's fields
 abbrev pub columns : List Column
@@ -77,7 +77,7 @@ abbrev pub rowOf : Record → Vals columns
 rowOf r =
     (Field.identifier-is & Field.size + length (encodeMetric r) + length (encodeSemantics r) & length (encodeMetric r)
     & r .code & r .inGroup & r .group & r .reference .byte20 & r .reference .byte21 & r .reference .byte22 & r .generalisation
-    & r .word & length (r .subobjects) & pointsOf (r .first .points) & tt)
+    & r .word & length (r .subobjects) & pointsOf (r .mark) (r .first .points) & tt)
 
 pub record-is : (r : Record) → encodeRecord r ≡ putRow columns (rowOf r) ++ (encodeMetric r ++ encodeSemantics r)
 unfolding encodeRecord encodeHeader
@@ -96,21 +96,6 @@ header-walk p left h w =
 items-fill : (al : ℕ → Bool) → Fills al (fill itemWalk) (flat encodeItem) (All FineItem) (flat itemYears)
 items-fill al = fill-fills al itemWalk encodeItem FineItem itemYears (item-reads al) item-grows
 
--- the record of a header, parts and items
-abbrev recordOf : Header → (Pair Part (List Part)) → List Item → Record
-recordOf h parts items =
-    record {
-      code = h .code;
-      inGroup = h .inGroup;
-      group = h .group;
-      reference = h .reference;
-      generalisation = h .generalisation;
-      word = h .word;
-      first = parts .first;
-      subobjects = parts .second;
-      items = items;
-    }
-
 -- parts and items that fill a metric and the rest of a record
 record Body (al : ℕ → Bool) (h : Header) (metric rest : List ℕ) (ps : Pair Part (List Part)) (is : List Item) : Type 0 where
   parts : FineMetric (h .reference) (isMark (h .points)) (firstCount (h .points) (h .word)) (h .subobjects) ps
@@ -122,7 +107,7 @@ record Body (al : ℕ → Bool) (h : Header) (metric rest : List ℕ) (ps : Pair
 
 body-back : (al : ℕ → Bool) (h : Header) (p : ℕ) (metric rest : List ℕ) → Bytes metric → Bytes rest → (r : Record)
     → answer al (bodyWalk h p metric rest) ≡ given r
-    → (ps : Pair Part (List Part)) × (is : List Item) × Body al h metric rest ps is × (recordOf h ps is ≡ r)
+    → (ps : Pair Part (List Part)) × (is : List Item) × Body al h metric rest ps is × (recordFrom h ps is ≡ r)
 unfolding bodyWalk
 body-back al h p metric rest bm br r e =
     let marked : Bool = isMark (h .points) in
@@ -136,7 +121,7 @@ body-back al h p metric rest bm br r e =
     (ps, is, record { parts = s .0; metric-is = s .2; flagged = c .0; items = t .0; years = t .1; rest-is = t .2 }, given-inj e3)
 
 body-on : (al : ℕ → Bool) (h : Header) (p : ℕ) (metric rest : List ℕ) (ps : Pair Part (List Part)) (is : List Item) → Body al h metric rest ps is
-    → answer al (bodyWalk h p metric rest) ≡ given (recordOf h ps is)
+    → answer al (bodyWalk h p metric rest) ≡ given (recordFrom h ps is)
 unfolding bodyWalk
 body-on al h p metric rest ps is b =
     let marked : Bool = isMark (h .points) in
@@ -154,15 +139,15 @@ body-on al h p metric rest ps is b =
 
 -- what the checks and the body show of the bytes xs
 record-fine : (al : ℕ → Bool) (xs : List ℕ) (ps : Pair Part (List Part)) (is : List Item) → Bytes xs → Field.size ≤ length xs
-    → holds (lengthChecks (length xs) (headerIn xs)) → holds (referenceChecks 20 21 22 (headerIn xs .reference)) → holds (countChecks (headerIn xs))
+    → holds (lengthChecks (length xs) (headerIn xs)) → holds (referenceChecks 20 21 22 (headerIn xs .reference))
     → Body al (headerIn xs) (metricIn (headerIn xs) xs) (semanticsIn (headerIn xs) xs) ps is
-    → FineRecord (recordOf (headerIn xs) ps is) × (length (encodeRecord (recordOf (headerIn xs) ps is)) ≡ headerIn xs .total)
-    × (encodeRecord (recordOf (headerIn xs) ps is) ++ drop (headerIn xs .total) xs ≡ xs)
-    × (isMark (headerIn xs .points) ≡ takesMark (ps .first .points))
-unfolding lengthChecks countChecks encodeMetric encodeSemantics
-record-fine al xs ps is bs room cl cr cp b =
+    → FineRecord (recordFrom (headerIn xs) ps is) × (length (encodeRecord (recordFrom (headerIn xs) ps is)) ≡ headerIn xs .total)
+    × (encodeRecord (recordFrom (headerIn xs) ps is) ++ drop (headerIn xs .total) xs ≡ xs)
+    × (isMark (headerIn xs .points) ≡ hasMark (markOf (headerIn xs .points)))
+unfolding lengthChecks encodeMetric encodeSemantics
+record-fine al xs ps is bs room cl cr b =
     let h : Header = headerIn xs in
-    let r : Record = recordOf h ps is in
+    let r : Record = recordFrom h ps is in
     let n : ℕ = h .total in
     let m : ℕ = h .metric in
     let k : ℕ = n - Field.size - m in
@@ -175,10 +160,10 @@ record-fine al xs ps is bs room cl cr cp b =
     let left : length ys ≡ length xs - 32 = length-drop 32 xs in
     let lm : length (encodeMetric r) ≡ m = ap length (b .metric-is) ∙ length-take-le m ys (omega arith) in
     let lk : length (encodeSemantics r) ≡ k = ap length (b .rest-is) ∙ length-take-le k (drop m ys) (rw (length-drop m ys) (omega arith)) in
-    let mk = mark-back (h .points) (h .word) (fits .1 .1 .1 .1 .1 .1 .1 .1 .1 .1 .1 .1 .0) (cp .0) in
+    let mk = mark-back (h .points) (h .word) (fits .1 .1 .1 .1 .1 .1 .1 .1 .1 .1 .1 .1 .0) in
     let count : ps .first .points ≡ firstCount (h .points) (h .word) = b .parts .0 .count in
-    let points : pointsOf (ps .first .points) ≡ h .points = ap pointsOf count ∙ mk .0 in
-    let marked : isMark (h .points) ≡ takesMark (ps .first .points) = sym (mk .1) ∙ ap takesMark (sym count) in
+    let points : pointsOf (markOf (h .points)) (ps .first .points) ≡ h .points = ap (pointsOf (markOf (h .points))) count ∙ mk .0 in
+    let marked : isMark (h .points) ≡ hasMark (markOf (h .points)) = sym (mk .1) in
     let identifier : Field.identifier-is ≡ h .identifier = sym (eqb-true _ _ (cl .0)) in
     let total : 32 + length (encodeMetric r) + length (encodeSemantics r) ≡ n = omega arith in
     let same : rowOf r ≡ rowIn columns xs =
@@ -209,6 +194,7 @@ record-fine al xs ps is bs room cl cr cp b =
         word = w .0;
         count = subst (λ z. z < 256 ^ 2) (sym (b .parts .1 .0)) (w .1 .0);
         reference = cr;
+        mark = mk .3;
         counted = rw count (mk .2);
         first = b .parts .0 .fine;
         subobjects = subst (λ z. All (FineSubobject (h .reference) z) (ps .second)) marked (b .parts .1 .1);
@@ -238,9 +224,9 @@ record-sound al p xs bs v e =
     let bm : Bytes (metricIn (headerIn xs) xs) = all-take _ (h .metric) ys by in
     let br : Bytes (semanticsIn (headerIn xs) xs) = all-take _ (h .total - 32 - h .metric) (drop (h .metric) ys) (all-drop _ (h .metric) ys by) in
     let b = body-back al h (p + Field.size) (metricIn (headerIn xs) xs) (semanticsIn (headerIn xs) xs) bm br r er in
-    let f = record-fine al xs (b .0) (b .1) bs (leb-true _ _ (c .0)) cl cr cp (b .2) in
-    let ym : Allowed al (markYears (takesMark (b .0 .first .points))) = subst (λ z. Allowed al (markYears z)) (f .3) yp in
-    let ya : Allowed al (recordYears (recordOf h (b .0) (b .1))) = record-uses al (recordOf h (b .0) (b .1)) .1 (yr, ym, b .2 .years) in
+    let f = record-fine al xs (b .0) (b .1) bs (leb-true _ _ (c .0)) cl cr (b .2) in
+    let ym : Allowed al (markYears (hasMark (markOf (h .points)))) = subst (λ z. Allowed al (markYears z)) (f .3) yp in
+    let ya : Allowed al (recordYears (recordFrom h (b .0) (b .1))) = record-uses al (recordFrom h (b .0) (b .1)) .1 (yr, ym, b .2 .years) in
     subst (λ u. Took al encodeRecord FineRecord recordYears xs u) (ap (λ r. piece r (h .total)) (b .3) ∙ given-inj g) (f .0, ya, sym (f .1), f .2)
 
 abbrev pub headerOf : Vals columns → Header
@@ -270,7 +256,7 @@ body-for : (al : ℕ → Bool) (r : Record) → FineRecord r → Allowed al (fla
     → Body al (headerFor r) (encodeMetric r) (encodeSemantics r) (record { first = r .first; second = r .subobjects }) (r .items)
 unfolding encodeMetric encodeSemantics
 body-for al r f y =
-    let mk = mark-on (r .first .points) (r .word) (f .counted) in
+    let mk = mark-on (r .mark) (r .first .points) (r .word) (f .mark) (f .counted) in
     record {
       parts = (
         record { count = sym (mk .0); fine = f .first },
@@ -283,11 +269,28 @@ body-for al r f y =
       rest-is = refl;
     }
 
+-- the record of that header is the one that was written
+record-for : (r : Record) → FineRecord r → recordFrom (headerFor r) (record { first = r .first; second = r .subobjects }) (r .items) ≡ r
+record-for r f =
+    let mk = mark-on (r .mark) (r .first .points) (r .word) (f .mark) (f .counted) in
+    λ j. record {
+      code = r .code;
+      inGroup = r .inGroup;
+      group = r .group;
+      reference = r .reference;
+      generalisation = r .generalisation;
+      word = r .word;
+      mark = mk .2 j;
+      first = r .first;
+      subobjects = r .subobjects;
+      items = r .items;
+    }
+
 -- the header that is read of a fine record, as it is written
 pub header-in : (r : Record) (xs x : List ℕ) → FineRecord r → xs ≡ encodeRecord r ++ x → headerIn xs ≡ headerFor r
 header-in r xs x f is =
     let tail : List ℕ = encodeMetric r ++ encodeSemantics r in
-    let mk = mark-on (r .first .points) (r .word) (f .counted) in
+    let mk = mark-on (r .mark) (r .first .points) (r .word) (f .mark) (f .counted) in
     let is2 : xs ≡ putRow columns (rowOf r) ++ (tail ++ x) = is ∙ ap (λ l. l ++ x) (record-is r) in
     let total : Field.size + length (encodeMetric r) + length (encodeSemantics r) < 256 ^ 4 = subst (λ n. n < 256 ^ 4) (length-record r) (f .total) in
     let metric : length (encodeMetric r) < 256 ^ 4 = omega arith in
@@ -306,7 +309,7 @@ record-complete al p r x f y =
     let M : List ℕ = encodeMetric r in
     let S : List ℕ = encodeSemantics r in
     let h : Header = headerFor r in
-    let mk = mark-on (r .first .points) (r .word) (f .counted) in
+    let mk = mark-on (r .mark) (r .first .points) (r .word) (f .mark) (f .counted) in
     let ya = record-uses al r .0 y in
     let len : length xs ≡ 32 + length M + length S + length x = omega (arith, length-append (encodeRecord r) x, length-record r) in
     let after : drop 32 xs ≡ M ++ (S ++ x) = ap (λ l. drop 32 (l ++ x)) (record-is r) ∙ append-assoc M S x in
@@ -320,7 +323,8 @@ record-complete al p r x f y =
     let walk : Walk Record = bodyWalk h (p + Field.size) m s in
     let body : answer al walk ≡ given r =
     ap₂ (λ u v. answer al (bodyWalk h (p + Field.size) u v)) metric rest
-    ∙ body-on al h (p + Field.size) M S parts (r .items) (body-for al r f (ya .2)) in
+    ∙ body-on al h (p + Field.size) M S parts (r .items) (body-for al r f (ya .2))
+    ∙ ap given (record-for r f) in
     let room : Field.size ≤ length xs = omega arith in
     checks-on al p (must (leb Field.size (length xs)) SHORT 0 ∷ []) _ (le-leb _ _ room, tt) tt
     ∙ ap (λ u. answer al (recordWith u p xs)) (header-in r xs x f refl)
@@ -328,7 +332,7 @@ record-complete al p r x f y =
     ∙ checks-on al p (lengthChecks (length xs) h) _
     (refl & omega (arith, le-leb) & omega (arith, le-leb) & omega (arith, le-leb) & tt) tt
     ∙ checks-on al p (referenceChecks 20 21 22 (r .reference)) _ (f .reference) (ya .0)
-    ∙ checks-on al p (countChecks h) _ (mk .2, tt) (subst (λ z. Allowed al (markYears z)) (sym (mk .1)) (ya .1))
+    ∙ checks-on al p (countChecks h) _ tt (subst (λ z. Allowed al (markYears z)) (sym (mk .1)) (ya .1))
     ∙ bind-on al walk (λ u. ends (piece u (h .total))) r body
     ∙ ap (λ n. given (piece r n)) (sym (length-record r))
 

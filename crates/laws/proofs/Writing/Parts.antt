@@ -1,5 +1,5 @@
 -- A part is taken from a table exactly as it is flattened.
-use mathlib.Core.Bool.{Bool, true, false, not, _||_, cond}
+use mathlib.Core.Bool.{Bool, true, false, _||_}
 use mathlib.Core.List.{List, [], _∷_, _++_}
 use mathlib.Core.Path.{_≡_, refl, ap, _∙_, subst}
 use Prim.Native.Nat.{ℕ, suc, _^_, _≤_, _<_}
@@ -11,7 +11,7 @@ use native.Mathlib.Omega.{arith}
 use Rattle.layout.specs.Bytes.{Bytes, FitAll, repeat}
 use Rattle.layout.specs.Fields.Header
 use Rattle.layout.specs.Layout.Fine.{Fits, FineLabel, FinePart, FineSubobject}
-use Rattle.layout.specs.Shared.Mark.{takesMark}
+use Rattle.layout.specs.Shared.Mark.{goodFirst}
 use Rattle.layout.specs.Shared.Reference.{textInMetric}
 use Rattle.layout.specs.Shared.Row
 use Rattle.layout.specs.Shared.Widths.{widths}
@@ -19,7 +19,6 @@ use Rattle.layout.specs.Sheet.{Part, Reference}
 use Rattle.layout.specs.Walk.{Check, given, holds, yearsOf}
 use Rattle.layout.specs.Writing.Parts.{firstRules, laterRules, fitAll, elementCount, elementRules, textRules, takePart}
 use Rattle.layout.specs.Writing.Tables.{table, taken, flattenPart}
-use Rattle.layout.specs.Years.{since, mark-65535}
 use Rattle.laws.proofs.Base.Lists.{_&_, all-take, both-true}
 use Rattle.laws.proofs.Base.Numbers.{length-repeat}
 use Rattle.laws.proofs.Base.Walks.{given-inj, checks-case, checks-on}
@@ -127,19 +126,17 @@ subobject-takes al r marked =
           T .complete i a rest (lt-ltb (a .points) 4294967296 (omega (arith, f .n1)) & f .counted & tt, f .part) tt;
     }
 
--- the first part of a record with that word
-pub record FineFirst (r : Reference) (word : ℕ) (a : Part) : Type 0 where
+-- the first part of a record with that mark and that word
+pub record FineFirst (r : Reference) (mark word : ℕ) (a : Part) : Type 0 where
   pub points : Fits Header.word (a .points)
-  pub counted : (not (takesMark (a .points)) || eqb word (a .points)) ≡ true
+  pub counted : goodFirst mark word (a .points) ≡ true
   pub part : FinePart r a
 
-abbrev pub firstYears : Part → List ℕ
-firstYears a = cond (takesMark (a .points)) (since mark-65535 ∷ []) []
-
-pub first-takes : (al : ℕ → Bool) (r : Reference) (word : ℕ) → Takes al 2 (takePart r (firstRules word)) flattenPart (FineFirst r word) firstYears
+pub first-takes : (al : ℕ → Bool) (r : Reference) (mark word : ℕ)
+    → Takes al 2 (takePart r (firstRules mark word)) flattenPart (FineFirst r mark word) (λ a. [])
 unfolding firstRules
-first-takes al r word =
-    let T = part-takes al r (firstRules word) in
+first-takes al r mark word =
+    let T = part-takes al r (firstRules mark word) in
     record {
       sound = λ i t h bs v e.
           let s = T .sound i t h bs v e in

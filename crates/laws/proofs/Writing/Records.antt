@@ -1,31 +1,33 @@
 -- A record is taken from a table exactly as it is flattened.
-use mathlib.Core.Bool.{Bool, true, false, not, _&&_, _||_}
+use mathlib.Core.Bool.{Bool, true, false, _&&_, cond}
 use mathlib.Core.List.{List, [], _∷_, _++_}
 use mathlib.Core.Logic.{_↔_}
-use mathlib.Core.Path.{_≡_, refl, ap, _∙_}
-use Prim.Native.Nat.{ℕ, suc, _+_, _*_, _/_, _%_, _^_, _≤_, _<_}
-use borrow.Author.Tests.{leb-true, le-leb, leb-false, ltb-true, lt-ltb, eqb-true}
-use lib.Dec.{leb, eqb}
+use mathlib.Core.Path.{_≡_, refl, sym, ap, _∙_}
+use Prim.Native.Nat.{ℕ, zero, suc, _+_, _*_, _/_, _%_, _^_, _≤_, _<_}
+use borrow.Author.Tests.{leb-true, le-leb, ltb-true, lt-ltb, eqb-true}
+use lib.Dec.{leb, ltb, eqb}
 use lib.ListN.{length, drop, getD, length-append, length-drop}
+use lib.Seq.{drop-cons}
+use native.Mathlib.Nat.{add-zero}
 use native.Mathlib.Omega.{arith}
 use Rattle.layout.specs.Bytes.{All, Bytes, flat, agree, some}
 use Rattle.layout.specs.Fields.Header
 use Rattle.layout.specs.Layout.Encode.{encodeRecord}
 use Rattle.layout.specs.Layout.Fine.{Fits, FineItem, FinePart, FineSubobject, FineRecord}
 use Rattle.layout.specs.Layout.Uses.{itemYears, recordYears}
-use Rattle.layout.specs.Shared.Mark.{takesMark, mark}
+use Rattle.layout.specs.Shared.Mark.{mark, hasMark, goodFirst}
 use Rattle.layout.specs.Shared.Reference.{referenceChecks, semantics, byte20, byte21, byte22}
 use Rattle.layout.specs.Shared.Row
 use Rattle.layout.specs.Sheet.{Reference, Record, Table}
 use Rattle.layout.specs.Walk.{given, answer, _>>_, holds, yearsOf}
-use Rattle.layout.specs.Writing.Rows.{RecordRow, rowIn, roomRules, nameRules, countRules, rowRules, takeInside, rowWalk}
+use Rattle.layout.specs.Writing.Rows.{RecordRow, recordFrom, rowIn, roomRules, nameRules, countRules, rowRules, takeInside, rowWalk}
 use Rattle.layout.specs.Writing.Tables.{table, join, Taken, taken, flattenHeader, flattenRecord}
 use Rattle.laws.proofs.Base.Chains.{Hold, four-case, four-on}
 use Rattle.laws.proofs.Base.Lists.{_&_, both-true}
 use Rattle.laws.proofs.Base.Walks.{Allowed}
-use Rattle.laws.proofs.Encoding.Uses.{record-uses}
-use Rattle.laws.proofs.Writing.Inside.{flattenInside, inside-numbers, recordOf, Inside, inside-sound, inside-complete}
-use Rattle.laws.proofs.Writing.Parts.{FineFirst, firstYears}
+use Rattle.laws.proofs.Encoding.Uses.{markYears, record-uses}
+use Rattle.laws.proofs.Writing.Inside.{flattenInside, inside-numbers, Inside, inside-sound, inside-complete}
+use Rattle.laws.proofs.Writing.Parts.{FineFirst}
 use Rattle.laws.proofs.Writing.Takes.{Takes, Took, table-path, join-assoc}
 
 -- a fine record but for its length, which only TOO LONG bounds
@@ -40,9 +42,10 @@ pub record NearRecord (r : Record) : Type 0 where
   pub word : Fits Header.word (r .word)
   pub count : Fits Header.subobjects (length (r .subobjects))
   pub reference : holds (referenceChecks (Header.byte20 .place) (Header.byte21 .place) (Header.byte22 .place) (r .reference))
-  pub counted : (not (takesMark (r .first .points)) || eqb (r .word) (r .first .points)) ≡ true
+  pub mark : r .mark ≤ 1
+  pub counted : goodFirst (r .mark) (r .word) (r .first .points) ≡ true
   pub first : FinePart (r .reference) (r .first)
-  pub subobjects : All (FineSubobject (r .reference) (takesMark (r .first .points))) (r .subobjects)
+  pub subobjects : All (FineSubobject (r .reference) (hasMark (r .mark))) (r .subobjects)
   pub flagged : agree (semantics (r .reference)) (some (r .items)) ≡ true
   pub items : All FineItem (r .items)
 
@@ -59,6 +62,7 @@ near-fine r n h = record {
   word = n .word;
   count = n .count;
   reference = n .reference;
+  mark = n .mark;
   counted = n .counted;
   first = n .first;
   subobjects = n .subobjects;
@@ -78,6 +82,7 @@ fine-near r f = record {
   word = f .word;
   count = f .count;
   reference = f .reference;
+  mark = f .mark;
   counted = f .counted;
   first = f .first;
   subobjects = f .subobjects;
@@ -85,16 +90,16 @@ fine-near r f = record {
   items = f .items;
 }
 
--- a first count that takes the mark stands in the word, so it fits as the word does
-count-fits : (word points : ℕ) → word < 256 ^ 4 → (not (takesMark points) || eqb word points) ≡ true → points < 256 ^ 4
-count-fits word points h e = go (takesMark points) refl e
+-- a first count under the mark stands in the word, so it fits as the word does
+count-fits : (number word points : ℕ) → word < 256 ^ 4 → goodFirst number word points ≡ true → points < 256 ^ 4
+count-fits number word points h e = go (hasMark number) e
   where
-    go : (b : Bool) → takesMark points ≡ b → (not b || eqb word points) ≡ true → points < 256 ^ 4
-    go true t e = let q : word ≡ points = eqb-true word points e in omega arith
-    go false t e = let q : points < mark = leb-false mark points t in omega arith
+    go : (b : Bool) → cond b (eqb word points) (ltb points mark) ≡ true → points < 256 ^ 4
+    go true e = let q : word ≡ points = eqb-true word points e in omega arith
+    go false e = let q : points < mark = ltb-true points mark e in omega arith
 
-pub near-first : (r : Record) → NearRecord r → FineFirst (r .reference) (r .word) (r .first)
-near-first r n = record { points = count-fits (r .word) (r .first .points) (n .word) (n .counted); counted = n .counted; part = n .first }
+pub near-first : (r : Record) → NearRecord r → FineFirst (r .reference) (r .mark) (r .word) (r .first)
+near-first r n = record { points = count-fits (r .mark) (r .word) (r .first .points) (n .word) (n .counted); counted = n .counted; part = n .first }
 
 -- the reference bytes as one number
 three : (a b c : ℕ) → a < 256 → b < 256 → c < 256
@@ -122,24 +127,24 @@ reference-years : (a b c d e f : ℕ) (r : Reference) → yearsOf (referenceChec
 unfolding referenceChecks byte20 byte21 byte22
 reference-years a b c d e f r = refl
 
--- a record's years are allowed where those of its reference bytes, its first count and its items are
+-- a record's years are allowed where those of its reference bytes, its mark and its items are
 record-allowed : (al : ℕ → Bool) (r : Record)
     → Allowed al (recordYears r)
-    ↔ (Allowed al (yearsOf (referenceChecks 3 3 3 (r .reference))) × Allowed al (firstYears (r .first)) × Allowed al (flat itemYears (r .items)))
+    ↔ (Allowed al (yearsOf (referenceChecks 3 3 3 (r .reference))) × Allowed al (markYears (hasMark (r .mark))) × Allowed al (flat itemYears (r .items)))
 record-allowed al r = rw (reference-years 3 3 3 20 21 22 (r .reference)) (record-uses al r)
 
--- the first eight of at least eight numbers, and the others
-eight : (l : List ℕ) → 8 ≤ length l
-    → getD l 0 0 ∷ getD l 1 0 ∷ getD l 2 0 ∷ getD l 3 0 ∷ getD l 4 0 ∷ getD l 5 0 ∷ getD l 6 0 ∷ getD l 7 0 ∷ drop 8 l ≡ l
-eight [] h = absurd (omega arith)
-eight (a ∷ []) h = absurd (omega arith)
-eight (a ∷ b ∷ []) h = absurd (omega arith)
-eight (a ∷ b ∷ c ∷ []) h = absurd (omega arith)
-eight (a ∷ b ∷ c ∷ d ∷ []) h = absurd (omega arith)
-eight (a ∷ b ∷ c ∷ d ∷ e ∷ []) h = absurd (omega arith)
-eight (a ∷ b ∷ c ∷ d ∷ e ∷ f ∷ []) h = absurd (omega arith)
-eight (a ∷ b ∷ c ∷ d ∷ e ∷ f ∷ g ∷ []) h = absurd (omega arith)
-eight (a ∷ b ∷ c ∷ d ∷ e ∷ f ∷ g ∷ k ∷ l) h = refl
+-- n numbers of a list, one by one from the index k on
+abbrev listed : ℕ → ℕ → List ℕ → List ℕ
+listed k zero l = []
+listed k (suc n) l = getD l k 0 ∷ listed (suc k) n l
+
+-- they and those after them are the list from k on
+listed-on : (k n : ℕ) (l : List ℕ) → k + n ≤ length l → listed k n l ++ drop (k + n) l ≡ drop k l
+listed-on k zero l h = ap (λ i. drop i l) (add-zero k)
+listed-on k (suc n) l h =
+    let next : suc k + n ≡ k + suc n = omega arith in
+    ap (λ r. getD l k 0 ∷ r) (ap (λ i. listed (suc k) n l ++ drop i l) (sym next) ∙ listed-on (suc k) n l (omega arith))
+    ∙ sym (drop-cons l k 0 (omega arith))
 
 some-length : {A : Type 0} (l : List A) → leb 1 (length l) ≡ some l
 some-length [] = refl
@@ -157,6 +162,7 @@ rowOf r = record {
   word = r .word;
   parts = 1 + length (r .subobjects);
   items = length (r .items);
+  mark = r .mark;
 }
 
 row-at : (r : Record) (rest : Table) → NearRecord r → rowIn (join (flattenRecord r) rest .numbers) ≡ rowOf r
@@ -171,11 +177,12 @@ row-at r rest n = λ j. record {
   word = r .word;
   parts = 1 + length (r .subobjects);
   items = length (r .items);
+  mark = r .mark;
 }
 
--- what is left of a table after the eight numbers of a row
+-- what is left of a table after the numbers of a row
 abbrev afterRow : Table → Table
-afterRow t = table (drop 8 (t .numbers)) (t .elements) (t .bytes)
+afterRow t = table (drop Row.rowWidth (t .numbers)) (t .elements) (t .bytes)
 
 -- what the rules of a row ask, where so many numbers are left
 abbrev RowHolds : RecordRow → ℕ → Type 0
@@ -183,7 +190,7 @@ RowHolds a left = Hold (roomRules a left) (nameRules a) (referenceChecks Row.ref
 
 -- the numbers that they leave room for
 row-room : (a : RecordRow) (left : ℕ) → RowHolds a left
-    → (8 ≤ left) × (8 + (2 * a .parts + 4 * a .items) ≤ left) × (1 ≤ a .parts) × (a .parts ≤ 65536) × (a .reference < 16777216)
+    → (Row.rowWidth ≤ left) × (Row.rowSize (a .parts) (a .items) ≤ left) × (1 ≤ a .parts) × (a .parts ≤ 65536) × (a .reference < 16777216)
 unfolding roomRules nameRules countRules
 row-room a left c =
     let p = both-true (leb 1 (a .parts)) (leb (a .parts) 65536) (c .3 .1 .1 .0) in
@@ -191,7 +198,7 @@ row-room a left c =
 
 -- a row whose rules hold, with an inside that was taken, is a near record
 row-near : (al : ℕ → Bool) (ns : List ℕ) (left : ℕ) (t : Table) (v : Taken Record) → RowHolds (rowIn ns) left → (s : Inside al (rowIn ns) t v)
-    → NearRecord (recordOf (rowIn ns) (s .first) (s .subobjects) (s .items))
+    → NearRecord (recordFrom (rowIn ns) (s .first) (s .subobjects) (s .items))
 unfolding nameRules countRules
 row-near al ns left t v c s =
     let a : RecordRow = rowIn ns in
@@ -208,6 +215,7 @@ row-near al ns left t v c s =
       word = ltb-true _ _ (c .3 .1 .0);
       count = count;
       reference = reference-holds 3 3 3 20 21 22 (a .referenceBytes) (c .2);
+      mark = leb-true _ _ (c .3 .1 .1 .1 .1 .0);
       counted = s .fineFirst .counted;
       first = s .fineFirst .part;
       subobjects = s .fineSubobjects;
@@ -216,33 +224,34 @@ row-near al ns left t v c s =
     }
 
 -- and together they are what stood there
-row-whole : (al : ℕ → Bool) (t : Table) (v : Taken Record) → 8 ≤ length (t .numbers) → rowIn (t .numbers) .reference < 16777216
+row-whole : (al : ℕ → Bool) (t : Table) (v : Taken Record) → Row.rowWidth ≤ length (t .numbers) → rowIn (t .numbers) .reference < 16777216
     → (s : Inside al (rowIn (t .numbers)) (afterRow t) v)
-    → join (flattenRecord (recordOf (rowIn (t .numbers)) (s .first) (s .subobjects) (s .items))) (s .left) ≡ t
+    → join (flattenRecord (recordFrom (rowIn (t .numbers)) (s .first) (s .subobjects) (s .items))) (s .left) ≡ t
 unfolding flattenRecord flattenHeader
 row-whole al t v h small s =
     let a : RecordRow = rowIn (t .numbers) in
-    let r : Record = recordOf a (s .first) (s .subobjects) (s .items) in
+    let r : Record = recordFrom a (s .first) (s .subobjects) (s .items) in
     let n : Row.referenceNumber (a .referenceBytes) ≡ a .reference = number-of-bytes (a .reference) small in
-    let row : flattenHeader r .numbers ++ drop 8 (t .numbers) ≡ t .numbers =
-    (λ j. a .code ∷ a .inGroup ∷ a .group ∷ n j ∷ a .generalisation ∷ a .word ∷ s .partCount j ∷ s .itemCount j ∷ drop 8 (t .numbers))
-    ∙ eight (t .numbers) h in
+    let after : List ℕ = drop Row.rowWidth (t .numbers) in
+    let row : flattenHeader r .numbers ++ after ≡ t .numbers =
+    (λ j. a .code ∷ a .inGroup ∷ a .group ∷ n j ∷ a .generalisation ∷ a .word ∷ s .partCount j ∷ s .itemCount j ∷ a .mark ∷ after)
+    ∙ listed-on 0 Row.rowWidth (t .numbers) h in
     let front : join (flattenHeader r) (afterRow t) ≡ t = table-path _ t row refl refl in
     join-assoc (flattenHeader r) (flattenInside r) (s .left) ∙ ap (λ x. join (flattenHeader r) x) (s .whole) ∙ front
 
 record-sound : (al : ℕ → Bool) (i : ℕ) (t : Table) → Bytes (t .bytes) → (v : Taken Record) → answer al (rowWalk i t) ≡ given v
     → Took al flattenRecord NearRecord recordYears t v
-unfolding rowWalk rowRules
+unfolding rowWalk rowRules countRules
 record-sound al i t bs v e =
     let a : RecordRow = rowIn (t .numbers) in
     let left = length (t .numbers) in
     let ref = referenceChecks Row.reference Row.reference Row.reference (a .referenceBytes) in
     four-case al i (roomRules a left) (nameRules a) ref (countRules a) _ v e λ c y e1.
     let room = row-room a left c in
-    let s = inside-sound al a (i + 8) (afterRow t) (room .2) (omega (arith, room .1, length-drop 8 (t .numbers))) bs v e1 in
+    let s = inside-sound al a (i + Row.rowWidth) (afterRow t) (room .2) (omega (arith, room .1, length-drop Row.rowWidth (t .numbers))) bs v e1 in
     rw (← (s .is)) (
       row-near al (t .numbers) left (afterRow t) v c s,
-      record-allowed al (recordOf a (s .first) (s .subobjects) (s .items)) .1 (y .2, s .firstAllowed, s .itemsAllowed),
+      record-allowed al (recordFrom a (s .first) (s .subobjects) (s .items)) .1 (y .2, y .3, s .itemsAllowed),
       row-whole al t v (room .0) (room .4) s,
     )
 
@@ -255,10 +264,10 @@ near-holds r left n h =
     let small : Row.referenceNumber (r .reference) < 16777216 = omega (arith, n .byte20, n .byte21, n .byte22) in
     let partsFit : (leb 1 parts && leb parts 65536) ≡ true = rw (le-leb 1 parts (omega arith)) (le-leb parts 65536 (omega (arith, n .count))) in
     let flag : agree (semantics (r .reference)) (leb 1 items) ≡ true = rw (some-length (r .items)) (n .flagged) in (
-      le-leb 8 left (omega arith) & le-leb _ _ h & tt,
+      le-leb Row.rowWidth left (omega arith) & le-leb _ _ h & tt,
       lt-ltb _ _ (n .code) & lt-ltb _ _ (n .inGroup) & lt-ltb _ _ (n .group) & lt-ltb _ _ small & tt,
       reference-holds 20 21 22 3 3 3 (r .reference) (n .reference),
-      lt-ltb _ _ (n .generalisation) & lt-ltb _ _ (n .word) & partsFit & flag & tt,
+      lt-ltb _ _ (n .generalisation) & lt-ltb _ _ (n .word) & partsFit & flag & le-leb _ _ (n .mark) & tt,
     )
 
 -- a record has so many numbers
@@ -276,9 +285,9 @@ record-complete al i r rest n y =
     let ref = referenceChecks Row.reference Row.reference Row.reference (r .reference) in
     let z = record-allowed al r .0 y in
     let room : Row.rowSize (a .parts) (a .items) ≤ left = omega (arith, record-numbers r, length-append (flattenRecord r .numbers) (rest .numbers)) in
-    ap (λ u. answer al (rowRules u i left >> takeInside u (i + 8) (afterRow t))) (row-at r rest n)
-    ∙ four-on al i (roomRules a left) (nameRules a) ref (countRules a) _ (near-holds r left n room) (tt, tt, z .0, tt)
-    ∙ inside-complete al a (i + 8) (r .first) (r .subobjects) (r .items) rest (near-first r n) (n .subobjects) (n .items) refl refl (z .1) (z .2)
+    ap (λ u. answer al (rowRules u i left >> takeInside u (i + Row.rowWidth) (afterRow t))) (row-at r rest n)
+    ∙ four-on al i (roomRules a left) (nameRules a) ref (countRules a) _ (near-holds r left n room) (tt, tt, z .0, z .1)
+    ∙ inside-complete al a (i + Row.rowWidth) (r .first) (r .subobjects) (r .items) rest (near-first r n) (n .subobjects) (n .items) refl refl (z .2)
 
 pub record-takes : (al : ℕ → Bool) → Takes al 0 rowWalk flattenRecord NearRecord recordYears
 record-takes al = record { sound = λ i t h bs v e. record-sound al i t bs v e; complete = record-complete al }

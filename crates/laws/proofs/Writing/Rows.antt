@@ -21,7 +21,7 @@ none-back : (l : List ℕ) → not (some l) ≡ true → l ≡ []
 none-back [] e = refl
 none-back (x ∷ l) e = let z : _≡_ {A = ℕ} 0 1 = cc in absurd (omega arith)
 
-pub record-grows : (r : Record) → 8 ≤ length (flattenRecord r .numbers)
+pub record-grows : (r : Record) → Row.rowWidth ≤ length (flattenRecord r .numbers)
 record-grows r = omega (arith, record-numbers r)
 
 -- the index of the row after a record's

@@ -11,7 +11,7 @@ use Rattle.layout.specs.Layout.Encode.{encodeItem, encodeText, encodePart, enco
 use Rattle.layout.specs.Layout.Fine.{FineItem, FinePart, FineSubobject, FineHead}
 use Rattle.layout.specs.Layout.Sizes.{sumBy, itemBytes, partBytes, subobjectBytes, recordBytes}
 use Rattle.layout.specs.Reading.Sheets.{start}
-use Rattle.layout.specs.Shared.Mark.{takesMark}
+use Rattle.layout.specs.Shared.Mark.{hasMark}
 use Rattle.layout.specs.Shared.Reference.{elementSize, floating, threeDimensions, textInMetric}
 use Rattle.layout.specs.Shared.Row
 use Rattle.layout.specs.Shared.Widths.{widths, pointSize, point-is-elements}
@@ -60,7 +60,7 @@ pub record-length : (r : Record) → NearRecord r → length (encodeRecord r) �
 unfolding encodeMetric encodeSemantics recordBytes
 record-length r n =
     let ref = r .reference in
-    let marked = takesMark (r .first .points) in
+    let marked = hasMark (r .mark) in
     let metric = length-append (encodePart ref (r .first)) (flat (encodeSubobject ref) (r .subobjects)) in
     let first = part-length ref (r .first) (n .first) in
     let F = FineSubobject ref marked in

@@ -8,6 +8,7 @@ use lib.Seq.{drop-append-seam, drop-drop}
 use native.Mathlib.Omega.{arith}
 use Rattle.layout.specs.Answers.Calls.{andThen}
 use Rattle.layout.specs.Bytes.{Bytes}
+use Rattle.layout.specs.Shared.Row.{rowWidth}
 use Rattle.layout.specs.Sheet.{Record, Table}
 use Rattle.layout.specs.Walk.{ends, Answer, given, refused, answer, _>>_, checks}
 use Rattle.layout.specs.Writing.Rows.{rowWalk, endRules, rowsFrom, rowsWalk}
@@ -54,7 +55,7 @@ module _ (al : ℕ → Bool) where
       ∙ then-same (answer al (rowWalk i (table (n ∷ ns) es pool))) _ _ (λ row e. answer-bind al (rowsOf most (nextRow i (row .value)) (row .left)) _)
 
   shorter : (i : ℕ) (t : Table) → Bytes (t .bytes) → (v : Taken Record) → answer al (rowWalk i t) ≡ given v
-      → (8 + length (v .left .numbers) ≤ length (t .numbers)) × Bytes (v .left .bytes)
+      → (rowWidth + length (v .left .numbers) ≤ length (t .numbers)) × Bytes (v .left .bytes)
   shorter i t b v e =
       let s = record-takes al .sound i t (omega arith) b v e in
       let E = flattenRecord (v .value) in

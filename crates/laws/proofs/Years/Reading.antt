@@ -77,7 +77,7 @@ own-header : (p left : ℕ) (h : Header) → Own (headerWalk p left h)
 unfolding headerWalk lengthChecks countChecks
 own-header p left h =
     own-then p (lengthChecks left h) _ (refl & refl & refl & refl & tt)
-    (own-then p (referenceChecks 20 21 22 (h .reference)) _ (own-reference 20 21 22 (h .reference)) (own-checks p (countChecks h) (refl & refl & tt)))
+    (own-then p (referenceChecks 20 21 22 (h .reference)) _ (own-reference 20 21 22 (h .reference)) (own-checks p (countChecks h) (refl & tt)))
 
 own-body : (h : Header) (p : ℕ) (metric after : List ℕ) → Own (bodyWalk h p metric after)
 unfolding bodyWalk

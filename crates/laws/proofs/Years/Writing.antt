@@ -6,7 +6,7 @@ use Prim.Native.Nat.{ℕ, zero, suc, _+_, _-_, _*_}
 use lib.ListN.{length}
 use Rattle.layout.specs.Fields.Descriptor
 use Rattle.layout.specs.Shared.Carried.{restChecks, carriedChecks}
-use Rattle.layout.specs.Shared.Mark.{takesMark}
+use Rattle.layout.specs.Shared.Mark.{hasMark}
 use Rattle.layout.specs.Shared.Reference.{referenceChecks}
 use Rattle.layout.specs.Shared.Row
 use Rattle.layout.specs.Shared.Texts.{textFits}
@@ -36,9 +36,9 @@ own-part r rules h i t =
     (own-then i (elementRules r points (t .elements)) _ (refl & refl & tt)
     (own-then i (textRules r size (t .bytes)) _ (refl & refl & refl & tt) tt))
 
-own-first : (word n : ℕ) → OwnChecks (firstRules word n)
+own-first : (mark word n : ℕ) → OwnChecks (firstRules mark word n)
 unfolding firstRules
-own-first word n = refl & refl & refl & tt
+own-first mark word n = refl & refl & tt
 
 own-later : (marked : Bool) (n : ℕ) → OwnChecks (laterRules marked n)
 unfolding laterRules
@@ -48,12 +48,12 @@ own-inside : (a : RecordRow) → OwnTaker (takeInside a)
 unfolding takeInside
 own-inside a i t =
     let r : Reference = a .referenceBytes in
-    let one : Taker Part = takePart r (firstRules (a .word)) in
+    let one : Taker Part = takePart r (firstRules (a .mark) (a .word)) in
     let k : ℕ = i + Row.partWidth * a .parts in
-    own-bind (one i t) _ (own-part r (firstRules (a .word)) (own-first (a .word)) i t)
-    (λ f. let other : Taker Part = takePart r (laterRules (takesMark (f .value .points))) in
+    own-bind (one i t) _ (own-part r (firstRules (a .mark) (a .word)) (own-first (a .mark) (a .word)) i t)
+    (λ f. let other : Taker Part = takePart r (laterRules (hasMark (a .mark))) in
     let rest : Taker (List Part) = many (a .parts - 1) Row.partWidth other in
-    let own : OwnTaker other = own-part r (laterRules (takesMark (f .value .points))) (own-later (takesMark (f .value .points))) in
+    let own : OwnTaker other = own-part r (laterRules (hasMark (a .mark))) (own-later (hasMark (a .mark))) in
     own-bind (rest (i + Row.partWidth) (f .left)) _ (own-many (a .parts - 1) Row.partWidth other own (i + Row.partWidth) (f .left))
     (λ m. own-bind (many (a .items) Row.itemWidth takeItem k (m .left)) _ (own-many (a .items) Row.itemWidth takeItem own-item k (m .left)) (λ e. tt)))
 
@@ -63,7 +63,7 @@ own-rules a i left =
     own-then i (roomRules a left) _ (refl & refl & tt)
     (own-then i (nameRules a) _ (refl & refl & refl & refl & tt)
     (own-then i (referenceChecks Row.reference Row.reference Row.reference (a .referenceBytes)) _ (own-reference _ _ _ (a .referenceBytes))
-    (own-checks i (countRules a) (refl & refl & refl & refl & tt))))
+    (own-checks i (countRules a) (refl & refl & refl & refl & refl & refl & tt))))
 
 own-row : OwnTaker rowWalk
 unfolding rowWalk

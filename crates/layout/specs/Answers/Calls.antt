@@ -71,7 +71,8 @@ recordOf place [] number = refused ASK 0 0
 recordOf place (r ∷ rs) zero = given (record { place = place; value = r })
 recordOf place (r ∷ rs) (suc number) = recordOf (place + length (encodeRecord r)) rs number
 
--- "A record asked for by number, from 0, answers place, total length, its eight numbers and its first part's points."
+-- "A record asked for by number, from 0, answers place, total length, its eight numbers and its first part's points." (01) The ninth, the
+-- mark, comes after items (02, request 2).
 unfoldable pub asked : ℕ → List ℕ → ℕ → Answer Placed
 asked year s number = andThen (reading year s) (λ t. recordOf start (t .records) number)
 

@@ -60,6 +60,7 @@ recordAt p =
       word = r .word;
       parts = 1 + length (r .subobjects);
       items = length (r .items);
+      mark = r .mark;
       points = r .first .points;
     }
 

@@ -76,6 +76,7 @@ recordRow (Find.Record x) =
       word = x .word;
       parts = x .parts;
       items = x .items;
+      mark = x .mark;
       points = x .points;
     }
 recordRow (Find.Refused r) =
@@ -93,6 +94,7 @@ recordRow (Find.Refused r) =
       word = 0;
       parts = 0;
       items = 0;
+      mark = 0;
       points = 0;
     }
 

@@ -59,7 +59,7 @@ encodeHeader r metric semantics =
     ++ stored Header.generalisation (r .generalisation)
     ++ stored Header.word (r .word)
     ++ stored Header.subobjects (length (r .subobjects))
-    ++ stored Header.points (pointsOf (r .first .points))
+    ++ stored Header.points (pointsOf (r .mark) (r .first .points))
 
 unfoldable pub encodeRecord : Record → List ℕ
 encodeRecord r = encodeHeader r (length (encodeMetric r)) (length (encodeSemantics r)) ++ encodeMetric r ++ encodeSemantics r

@@ -1,6 +1,6 @@
 -- What the values of a sheet must keep to be one. Each number fits its field, and document 01's rules hold.
 use Prim.Native.Nat.{ℕ, _^_, _≤_, _<_}
-use mathlib.Core.Bool.{Bool, true, false, not, _||_}
+use mathlib.Core.Bool.{Bool, true, false, _||_}
 use mathlib.Core.List.{List, []}
 use mathlib.Core.Path.{_≡_}
 use lib.Dec.{eqb}
@@ -14,7 +14,7 @@ use Rattle.layout.specs.Fields.Passport
 use Rattle.layout.specs.Fields.Subobject
 use Rattle.layout.specs.Layout.Encode.{encodeRecord, encode}
 use Rattle.layout.specs.Shared.Carried.{restChecks, carriedChecks}
-use Rattle.layout.specs.Shared.Mark.{takesMark, n1Of}
+use Rattle.layout.specs.Shared.Mark.{hasMark, goodFirst, n1Of}
 use Rattle.layout.specs.Shared.Reference.{referenceChecks, semantics, textInMetric}
 use Rattle.layout.specs.Shared.Texts.{FineText}
 use Rattle.layout.specs.Shared.Types.{kindOf, isKnown, goodScale, valueLength, goodLength, isClosed}
@@ -70,10 +70,11 @@ pub record FineRecord (r : Record) : Type 0 where
   pub word : Fits Header.word (r .word)
   pub count : Fits Header.subobjects (length (r .subobjects))
   pub reference : holds (referenceChecks (Header.byte20 .place) (Header.byte21 .place) (Header.byte22 .place) (r .reference))
-  -- a first count that takes the mark stands in the word
-  pub counted : (not (takesMark (r .first .points)) || eqb (r .word) (r .first .points)) ≡ true
+  -- "mark 0 or 1"; "a first count over 65534 needs mark 1", and under the mark the word is the first count (02, request 2)
+  pub mark : r .mark ≤ 1
+  pub counted : goodFirst (r .mark) (r .word) (r .first .points) ≡ true
   pub first : FinePart (r .reference) (r .first)
-  pub subobjects : All (FineSubobject (r .reference) (takesMark (r .first .points))) (r .subobjects)
+  pub subobjects : All (FineSubobject (r .reference) (hasMark (r .mark))) (r .subobjects)
   -- "the flag is set exactly when there are such bytes"
   pub flagged : agree (semantics (r .reference)) (some (r .items)) ≡ true
   pub items : All FineItem (r .items)

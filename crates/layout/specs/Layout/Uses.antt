@@ -5,7 +5,7 @@ use mathlib.Core.List.{List, [], _∷_, _++_}
 use Rattle.layout.specs.Bytes.{flat}
 use Rattle.layout.specs.Fields.Header
 use Rattle.layout.specs.Shared.Carried.{restChecks, carriedChecks}
-use Rattle.layout.specs.Shared.Mark.{takesMark}
+use Rattle.layout.specs.Shared.Mark.{hasMark}
 use Rattle.layout.specs.Shared.Reference.{referenceChecks}
 use Rattle.layout.specs.Shared.Types.{kindOf, isLong}
 use Rattle.layout.specs.Sheet.{Item, Record, Sheet}
@@ -18,7 +18,7 @@ itemYears i = cond (isLong (kindOf (i .type))) (since type-128 ∷ []) []
 unfoldable pub recordYears : Record → List ℕ
 recordYears r =
     yearsOf (referenceChecks (Header.byte20 .place) (Header.byte21 .place) (Header.byte22 .place) (r .reference))
-    ++ cond (takesMark (r .first .points)) (since mark-65535 ∷ []) []
+    ++ cond (hasMark (r .mark)) (since mark-65535 ∷ []) []
     ++ flat itemYears (r .items)
 
 unfoldable pub years : Sheet → List ℕ

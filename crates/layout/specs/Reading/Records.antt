@@ -1,7 +1,7 @@
 -- A record: its header, its metric and its semantics. (01, Record and Order: "each record: 32 bytes left, identifier, lengths, bytes
--- 20 to 22, points, word at +24, each metric part [..], metric end, semantics flag, each item [..]")
+-- 20 to 22, points, word at +24, each metric part [..], metric end, semantics flag, each item [..]") The word at +24 is not refused any
+-- more: "That was our misreading: under the mark any count in the word is good." (02, request 2)
 use Prim.Native.Nat.{ℕ, _+_, _-_}
-use mathlib.Core.Bool.{not, _||_}
 use mathlib.Core.List.{List, [], _∷_}
 use lib.Dec.{eqb, leb}
 use lib.ListN.{length, take, drop}
@@ -9,11 +9,11 @@ use Rattle.layout.specs.Bytes.{numberIn, some, agree}
 use Rattle.layout.specs.Fields.Header as Field
 use Rattle.layout.specs.Reading.Items.{itemWalk}
 use Rattle.layout.specs.Reading.Parts.{metricWalk}
-use Rattle.layout.specs.Refusals.{SHORT, NOT-SXF, LENGTH, COUNT}
-use Rattle.layout.specs.Shared.Mark.{mark, isMark, firstCount}
+use Rattle.layout.specs.Refusals.{SHORT, NOT-SXF, LENGTH}
+use Rattle.layout.specs.Shared.Mark.{isMark, markOf, firstCount}
 use Rattle.layout.specs.Shared.Reference.{referenceChecks, semantics}
-use Rattle.layout.specs.Sheet.{Reference, Record}
-use Rattle.layout.specs.Walk.{Walk, Check, must, dated, checks, _>>=_, _>>_, ends, Reader, piece, fill}
+use Rattle.layout.specs.Sheet.{Item, Part, Reference, Record}
+use Rattle.layout.specs.Walk.{Walk, Check, must, dated, checks, _>>=_, _>>_, ends, Reader, piece, Pair, fill}
 use Rattle.layout.specs.Years.{since, mark-65535}
 
 -- what stands in the header of a record
@@ -57,12 +57,10 @@ lengthChecks left h =
     ∷ must (leb (h .metric) (h .total - Field.size)) LENGTH (Field.metric .place)
     ∷ []
 
--- points, and the word: "COUNT: +24 too small under the mark"
+-- points: "The mark's year stays 2004" (02, request 2), at +30; "under the mark any count in the word is good"
 unfoldable pub countChecks : Header → List Check
 countChecks h =
-    dated (isMark (h .points)) (since mark-65535) (Field.points .place)
-    ∷ must (not (isMark (h .points)) || leb mark (h .word)) COUNT (Field.word .place)
-    ∷ []
+    dated (isMark (h .points)) (since mark-65535) (Field.points .place) ∷ []
 
 -- all checks on a header
 unfoldable pub headerWalk : ℕ → ℕ → Header → Walk (Unit {0})
@@ -70,6 +68,22 @@ headerWalk place left h = do
   checks place (lengthChecks left h)
   checks place (referenceChecks (Field.byte20 .place) (Field.byte21 .place) (Field.byte22 .place) (h .reference))
   checks place (countChecks h)
+
+-- the record that a header, its parts and its items make
+abbrev pub recordFrom : Header → Pair Part (List Part) → List Item → Record
+recordFrom h parts items =
+    record {
+      code = h .code;
+      inGroup = h .inGroup;
+      group = h .group;
+      reference = h .reference;
+      generalisation = h .generalisation;
+      word = h .word;
+      mark = markOf (h .points);
+      first = parts .first;
+      subobjects = parts .second;
+      items = items;
+    }
 
 -- the metric of a record whose header is h, at the place where it starts, and what comes after it in the record
 -- "Semantics fill the record after the metric; the flag is set exactly when there are such bytes."
@@ -80,18 +94,7 @@ bodyWalk h place metric after = do
   parts ← metricWalk (h .reference) (isMark (h .points)) (firstCount (h .points) (h .word)) (h .subobjects) place metric
   checks end (must (agree (semantics (h .reference)) (some after)) LENGTH 0 ∷ [])
   items ← fill itemWalk end after
-  ends
-      (record {
-        code = h .code;
-        inGroup = h .inGroup;
-        group = h .group;
-        reference = h .reference;
-        generalisation = h .generalisation;
-        word = h .word;
-        first = parts .first;
-        subobjects = parts .second;
-        items = items;
-      })
+  ends (recordFrom h parts items)
 
 -- the bytes of the metric, and those after it up to the record's end; xs are the bytes from the record's start on
 abbrev pub metricIn : Header → List ℕ → List ℕ

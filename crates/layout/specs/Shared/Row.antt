@@ -2,6 +2,7 @@
 --   "Per record eight numbers: code, number in group, group number, reference bytes as one number (byte 20 lowest), generalisation,
 --   word at +24, parts (1 + subobjects), items. Then per part two: points, text length. Then per item four: code, type, scale byte,
 --   value length."
+-- Now nine: "The record row gains a ninth number, mark 0 or 1" (02, request 2). It stands after items.
 use Prim.Native.Nat.{ℕ, _+_, _*_, _/_, _%_}
 use mathlib.Core.List.{List, [], _∷_}
 use mathlib.Core.Path.{_≡_, refl}
@@ -34,9 +35,12 @@ parts = 6
 abbrev pub items : ℕ
 items = 7
 
+abbrev pub mark : ℕ
+mark = 8
+
 -- how many numbers a record has before those of its parts
 abbrev pub rowWidth : ℕ
-rowWidth = 8
+rowWidth = 9
 
 -- the indices of a part's numbers, counted from the first of them
 abbrev pub points : ℕ
@@ -79,6 +83,6 @@ referenceNumber r = number 3 (r .byte20 ∷ r .byte21 ∷ r .byte22 ∷ [])
 abbrev pub referenceOf : ℕ → Reference
 referenceOf n = record { byte20 = n % 256; byte21 = n / 256 % 256; byte22 = n / 65536 % 256 }
 
-cases : (rowSize 1 0 ≡ 10) × (rowSize 2 3 ≡ 24) × (referenceNumber (record { byte20 = 2; byte21 = 1; byte22 = 8 }) ≡ 524546)
+cases : (rowSize 1 0 ≡ 11) × (rowSize 2 3 ≡ 25) × (referenceNumber (record { byte20 = 2; byte21 = 1; byte22 = 8 }) ≡ 524546)
     × (referenceOf 524546 ≡ record { byte20 = 2; byte21 = 1; byte22 = 8 })
 cases = (refl, refl, refl, refl)

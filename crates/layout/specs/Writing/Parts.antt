@@ -1,33 +1,28 @@
--- The writer's checks on a part's two numbers. (01, The record table)
+-- The writer's checks on a part's two numbers. (01, The record table; 02, request 2)
 use Prim.Native.Nat.{ℕ, _*_, _^_}
-use mathlib.Core.Bool.{Bool, true, false, not, _&&_, _||_}
+use mathlib.Core.Bool.{Bool, true, false, _&&_, _||_}
 use mathlib.Core.List.{List, [], _∷_}
 use lib.Dec.{eqb, leb, ltb}
 use lib.ListN.{length, take, drop}
 use Rattle.layout.specs.Bytes.{repeat}
 use Rattle.layout.specs.Fields.Header
 use Rattle.layout.specs.Refusals.{COUNT, TABLE}
-use Rattle.layout.specs.Shared.Mark.{takesMark, n1Of}
+use Rattle.layout.specs.Shared.Mark.{goodFirst, n1Of}
 use Rattle.layout.specs.Shared.Reference.{textInMetric}
 use Rattle.layout.specs.Shared.Row
 use Rattle.layout.specs.Shared.Widths.{widths}
 use Rattle.layout.specs.Sheet.{Part, Reference}
-use Rattle.layout.specs.Walk.{Check, must, dated, checks, _>>_, ends}
+use Rattle.layout.specs.Walk.{Check, must, checks, _>>_, ends}
 use Rattle.layout.specs.Writing.Items.{fitsField}
 use Rattle.layout.specs.Writing.Tables.{table, Taker, taken}
-use Rattle.layout.specs.Years.{since, mark-65535}
 
--- The first part's points, where the word is so: "At a part's points: TOO NEW for a first count of 65535 or more, then COUNT if the
--- word differs from it". A count has 4 bytes, as the word has.
-unfoldable pub firstRules : ℕ → ℕ → List Check
-firstRules word points =
-    fitsField Header.word points Row.points
-    ∷ dated (takesMark points) (since mark-65535) Row.points
-    ∷ must (not (takesMark points) || eqb word points) COUNT Row.points
-    ∷ []
+-- The first part's points, where mark and word are so: "11 now stands [..] for mark 0 with a first count of 65535 or more [..], and for
+-- mark 1 with a word that differs from the first count". A count has 4 bytes, as the word has.
+unfoldable pub firstRules : ℕ → ℕ → ℕ → List Check
+firstRules mark word points = fitsField Header.word points Row.points ∷ must (goodFirst mark word points) COUNT Row.points ∷ []
 
--- A later part's points; marked is whether the first count takes the mark: "or if a later count exceeds 65535 and the first is below
--- 65535". A count exceeds 65535 where its N1 is not 0.
+-- A later part's points; marked is whether the record has the mark: "11 now stands [..] for mark 0 with [..] a later count over 65535". A
+-- count is over 65535 where its N1 is not 0.
 unfoldable pub laterRules : Bool → ℕ → List Check
 laterRules marked points = fitsField Header.word points Row.points ∷ must (marked || eqb (n1Of points) 0) COUNT Row.points ∷ []
 

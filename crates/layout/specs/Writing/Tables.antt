@@ -16,7 +16,7 @@ abbrev pub joined : {A : Type 0} → (A → Table) → List A → Table
 joined f [] = table [] [] []
 joined f (a ∷ l) = join (f a) (joined f l)
 
--- "Per record eight numbers"
+-- "Per record eight numbers" (01), and "a ninth number, mark 0 or 1" (02, request 2)
 unfoldable pub flattenHeader : Record → Table
 flattenHeader r =
     table
@@ -28,6 +28,7 @@ flattenHeader r =
     ∷ r .word
     ∷ (1 + length (r .subobjects))
     ∷ length (r .items)
+    ∷ r .mark
     ∷ [])
     []
     []

@@ -20,6 +20,7 @@ use Rattle.layout.specs.Layout.Uses.{recordYears}
 use Rattle.layout.specs.Reading.Hops.{placeIn}
 use Rattle.layout.specs.Reading.Records.{headerIn, recordWalk}
 use Rattle.layout.specs.Reading.Sheets.{start, sheetWalk}
+use Rattle.layout.specs.Shared.Row.{rowSize, partWidth, itemWidth}
 use Rattle.layout.specs.Sheet.{Record}
 use Rattle.layout.specs.Walk.{Answer, Piece, given, refused, answer, upTo, piece, times}
 use Rattle.layout.specs.Writing.Tables.{joined, flattenRecord}
@@ -59,10 +60,10 @@ years-of al place (r ∷ l) (suc n) p e y =
 record-by : (place : ℕ) (r : Record) (xs x : List ℕ) → FineRecord r → xs ≡ encodeRecord r ++ x → (n : ℕ) → n ≡ length (flattenRecord r .numbers)
     → recordBy place n (headerIn xs) ≡ recordAt (record { place = place; value = r })
 record-by place r xs x f e n c =
-    let items : (n - (10 + 2 * length (r .subobjects))) / 4 ≡ length (r .items) = omega (arith, c, record-numbers r) in
-    let points = mark-on (r .first .points) (r .word) (f .counted) .0 in
+    let items : (n - (rowSize 1 0 + partWidth * length (r .subobjects))) / itemWidth ≡ length (r .items) = omega (arith, c, record-numbers r) in
+    let marked = mark-on (r .mark) (r .first .points) (r .word) (f .mark) (f .counted) in
     ap (λ h. recordBy place n h) (header-in r xs x f e)
-    ∙ rw (items, points, length-record r) refl
+    ∙ rw (items, marked .0, marked .2, length-record r) refl
 
 fine-numbers : (u v : Tally) → Fine u ≡ Fine v → u .numbers ≡ v .numbers
 fine-numbers u v e = let j : u ≡ v = cc in ap (λ (z : Tally). z .numbers) j

@@ -25,10 +25,12 @@ use Rattle.layout.specs.Bytes.{some, agree}
 use Rattle.layout.specs.Fields.Header as Field
 use Rattle.layout.specs.Reading.Items.{itemWalk}
 use Rattle.layout.specs.Reading.Parts.{metricWalk}
-use Rattle.layout.specs.Reading.Records.{Header, headerIn, lengthChecks, countChecks, headerWalk, bodyWalk, metricIn, semanticsIn, recordWith, recordWalk}
+use Rattle.layout.specs.Reading.Records.{Header, headerIn, recordFrom, metricIn, semanticsIn}
+use Rattle.layout.specs.Reading.Records.{lengthChecks, countChecks, headerWalk, bodyWalk, recordWith, recordWalk}
 use Rattle.layout.specs.Refusals.{LENGTH, SHORT}
 use Rattle.layout.specs.Shared.Mark.{isMark, firstCount}
 use Rattle.layout.specs.Shared.Reference.{referenceChecks, semantics}
+use Rattle.layout.specs.Shared.Row.{rowWidth}
 use Rattle.layout.specs.Sheet.{Item, Part, Record, Table}
 use Rattle.layout.specs.Walk.{Walk, ends, stops, checks, _>>=_, _>>_, Pair, Piece, piece, fill}
 use Rattle.layout.specs.Writing.Tables.{joined, flattenHeader, flattenPart, flattenItem, flattenRecord}
@@ -55,21 +57,7 @@ module _ (y p : ℕ) (xs : List ℕ) (flag t : Bool) (front : Tally) (e : t ≡ 
 -- the metric and the semantics
 
 abbrev pub headTally : Tally
-headTally = record { used = 32; numbers = 8; elements = 0; bytes = 0 }
-
-abbrev recordOf : Header → Pair Part (List Part) → List Item → Record
-recordOf h parts items =
-    record {
-      code = h .code;
-      inGroup = h .inGroup;
-      group = h .group;
-      reference = h .reference;
-      generalisation = h .generalisation;
-      word = h .word;
-      first = parts .first;
-      subobjects = parts .second;
-      items = items;
-    }
+headTally = record { used = 32; numbers = rowWidth; elements = 0; bytes = 0 }
 
 same-tally : (u v n m e f b c : ℕ) → u ≡ v → n ≡ m → e ≡ f → b ≡ c
     → _≡_ {A = Tally} (record { used = u; numbers = n; elements = e; bytes = b }) (record { used = v; numbers = m; elements = f; bytes = c })
@@ -80,14 +68,14 @@ three : (k : ℕ) (a b c : List ℕ) → k + length (a ++ (b ++ c)) ≡ k + leng
 three k a b c = omega (arith, length-append a (b ++ c), length-append b c, length-append a b)
 
 record-tally : (h : Header) (v : Pair Part (List Part)) (items : List Item) (m s : ℕ) → h .total ≡ 32 + m + s
-    → tallyOf (h .total) (flattenRecord (recordOf h v items)) ≡ add (add headTally (tallyOf m (metricTable v))) (tallyOf s (joined flattenItem items))
+    → tallyOf (h .total) (flattenRecord (recordFrom h v items)) ≡ add (add headTally (tallyOf m (metricTable v))) (tallyOf s (joined flattenItem items))
 unfolding flattenRecord flattenHeader
 record-tally h v items m s e =
     let F : Table = flattenPart (v .first) in
     let S : Table = joined flattenPart (v .second) in
     let I : Table = joined flattenItem items in
     same-tally _ _ _ _ _ _ _ _ e
-    (omega (arith, three 8 (F .numbers) (S .numbers) (I .numbers)))
+    (omega (arith, three rowWidth (F .numbers) (S .numbers) (I .numbers)))
     (omega (arith, three 0 (F .elements) (S .elements) (I .elements)))
     (omega (arith, three 0 (F .bytes) (S .bytes) (I .bytes)))
 
@@ -103,15 +91,15 @@ module _ (h : Header) (place : ℕ) (ms ss : List ℕ) (y : ℕ) (e : h .total �
 
   later-is : (v : Pair Part (List Part)) (b : Bool)
       → shown (tally flattenRecord) y
-      ((cond b (ends tt) (stops LENGTH (place + h .metric + 0)) >> (fill itemWalk (place + h .metric) ss >>= λ items. ends (recordOf h v items))) >>= λ r. ends
-      (piece r (h .total)))
+      ((cond b (ends tt) (stops LENGTH (place + h .metric + 0)) >> (fill itemWalk (place + h .metric) ss >>= λ items. ends (recordFrom h v items)))
+      >>= λ r. ends (piece r (h .total)))
       ≡ cond b (plus (add headTally (tallyOf (length ms) (metricTable v)))
       (shown (λ l. tallyOf (length ss) (joined flattenItem l)) y (fill itemWalk (place + h .metric) ss))) (Refused (refusal LENGTH (place + h .metric) 0))
   later-is v true =
       ap (shown (tally flattenRecord) y)
-      (bind-assoc (fill itemWalk (place + h .metric) ss) (λ items. ends (recordOf h v items)) (λ r. ends (piece r (h .total))))
+      (bind-assoc (fill itemWalk (place + h .metric) ss) (λ items. ends (recordFrom h v items)) (λ r. ends (piece r (h .total))))
       ∙ shown-plus y (λ l. tallyOf (length ss) (joined flattenItem l)) (tally flattenRecord) (fill itemWalk (place + h .metric) ss)
-      (λ items. piece (recordOf h v items) (h .total))
+      (λ items. piece (recordFrom h v items) (h .total))
       (add headTally (tallyOf (length ms) (metricTable v))) (λ items. record-tally h v items (length ms) (length ss) e)
   later-is v false = simp add-zero
 

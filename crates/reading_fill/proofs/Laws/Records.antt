@@ -16,6 +16,7 @@ use Rattle.fields.specs.declared.shapes.Shape.{Shape}
 use Rattle.laws.proofs.Writing.Items.{items-flat}
 use Rattle.layout.specs.Reading.Items.{itemIn, itemSize}
 use Rattle.layout.specs.Reading.Records.{Header, headerIn, metricIn, semanticsIn}
+use Rattle.layout.specs.Shared.Row.{rowWidth}
 use Rattle.layout.specs.Sheet.{Item, Table}
 use Rattle.layout.specs.Writing.Tables.{table, join, joined, flattenHeader, flattenPart, flattenItem, flattenRecord}
 use Rattle.reading_fill.proofs.Laws.Loops.{times-length}
@@ -121,9 +122,9 @@ module _ (xs : List ℕ) (c : Cursor) (fits : RecordFits (drop (c .place) xs)) w
   abbrev it : Table
   it = joined flattenItem its
 
-  -- past the eight numbers, which are written last
-  abbrev pub past8 : Cursor
-  past8 = record { place = c .place; numbers = c .numbers + 8; elements = c .elements; bytes = c .bytes }
+  -- past the row's numbers, which are written last
+  abbrev pub past-row : Cursor
+  past-row = record { place = c .place; numbers = c .numbers + rowWidth; elements = c .elements; bytes = c .bytes }
 
   record-table : flattenRecord (recordIn (drop (c .place) xs)) ≡ table (rowOf mine (length its) ++ (mt .numbers ++ it .numbers)) (mt .elements)
       (mt .bytes ++ it .bytes)
@@ -138,12 +139,12 @@ module _ (xs : List ℕ) (c : Cursor) (fits : RecordFits (drop (c .place) xs)) w
       let flat : q .elements ++ it .elements ≡ q .elements = ap (λ e. q .elements ++ e) (items-flat its) ∙ append-nil (q .elements) in
       rw (len, append-assoc (p .numbers) (q .numbers) (it .numbers), append-assoc (p .bytes) (q .bytes) (it .bytes), flat) refl
 
-  row-eight : (n : ℕ) → length (rowOf mine n) ≡ 8
+  row-length : (n : ℕ) → length (rowOf mine n) ≡ rowWidth
   unfolding rowOf
-  row-eight n = refl
+  row-length n = refl
 
   module _ (xl tl el bl : ℕ) (r : Room c (recordSize (drop (c .place) xs)) (flattenRecord (recordIn (drop (c .place) xs))) xl tl el bl) where
-    record-room : (c .place + mine .total ≤ xl) × (c .numbers + 8 + length (mt .numbers) + length (it .numbers) ≤ tl)
+    record-room : (c .place + mine .total ≤ xl) × (c .numbers + rowWidth + length (mt .numbers) + length (it .numbers) ≤ tl)
         × (c .elements + length (mt .elements) ≤ el)
         × (c .bytes + length (mt .bytes) + length (it .bytes) ≤ bl)
     record-room =
@@ -155,16 +156,16 @@ module _ (xs : List ℕ) (c : Cursor) (fits : RecordFits (drop (c .place) xs)) w
             q .numbers,
             length-append (rowOf mine (length its)) (mt .numbers ++ it .numbers),
             length-append (mt .numbers) (it .numbers),
-            row-eight (length its),
+            row-length (length its),
           ),
           q .elements,
           omega (arith, q .bytes, length-append (mt .bytes) (it .bytes)),
         )
 
-    pub record-header : (c .place + 32 ≤ xl) × (c .numbers + 8 ≤ tl) × (c .place + mine .total ≤ xl)
+    pub record-header : (c .place + 32 ≤ xl) × (c .numbers + rowWidth ≤ tl) × (c .place + mine .total ≤ xl)
     record-header = let q = record-room in omega (arith, q, fits .low)
 
-    pub record-metric : Room (inside past8) (metricSize (shapeIn mine) (firstIn mine) (mine .subobjects) (metricIn mine (drop (c .place) xs)))
+    pub record-metric : Room (inside past-row) (metricSize (shapeIn mine) (firstIn mine) (mine .subobjects) (metricIn mine (drop (c .place) xs)))
         (metricTable (shapeIn mine) (firstIn mine) (mine .subobjects) (metricIn mine (drop (c .place) xs))) (mine .metric) tl el bl
         × (c .place + (32 + mine .metric) ≤ xl)
     record-metric =
@@ -173,7 +174,7 @@ module _ (xs : List ℕ) (c : Cursor) (fits : RecordFits (drop (c .place) xs)) w
           omega (arith, q, fits .low),
         )
 
-    module _ (d : Cursor) (ed : d ≡ moved (inside past8) ms mt) where
+    module _ (d : Cursor) (ed : d ≡ moved (inside past-row) ms mt) where
       -- the room of the items, where the pool of elements is not lent
       pub record-items : Room (inside (record { place = c .place; numbers = d .numbers; elements = d .elements; bytes = d .bytes }))
           (fillSize itemSize (semanticsIn mine (drop (c .place) xs)))
@@ -190,7 +191,7 @@ module _ (xs : List ℕ) (c : Cursor) (fits : RecordFits (drop (c .place) xs)) w
             q .0,
           )
 
-  module _ (d e : Cursor) (ed : d ≡ moved (inside past8) ms mt)
+  module _ (d e : Cursor) (ed : d ≡ moved (inside past-row) ms mt)
       (ee : e ≡ moved (inside (record { place = c .place; numbers = d .numbers; elements = d .elements; bytes = d .bytes })) is it) where
     pub counted : (d .numbers ≤ e .numbers) × ((e .numbers - d .numbers) / 4 ≡ length (fillIn itemIn itemSize (semanticsIn mine (drop (c .place) xs))))
     counted = let n = ap (λ (z : Cursor). z .numbers) ee in let f = items-four its in (omega (arith, n), omega (arith, n, f))
@@ -209,7 +210,7 @@ module _ (xs : List ℕ) (c : Cursor) (fits : RecordFits (drop (c .place) xs)) w
           ap (λ (z : Cursor). z .numbers) ee,
           length-append (rowOf mine (length its)) (mt .numbers ++ it .numbers),
           length-append (mt .numbers) (it .numbers),
-          row-eight (length its),
+          row-length (length its),
         ) in
         let l : e .elements ≡ c .elements + length (T .elements) =
         omega (arith, ap (λ (z : Cursor). z .elements) ed, ap (λ (z : Cursor). z .elements) ee, ap length (items-flat its)) in
@@ -217,20 +218,20 @@ module _ (xs : List ℕ) (c : Cursor) (fits : RecordFits (drop (c .place) xs)) w
         omega (arith, ap (λ (z : Cursor). z .bytes) ed, ap (λ (z : Cursor). z .bytes) ee, length-append (mt .bytes) (it .bytes)) in
         rw record-table (λ j. record { place = p j; numbers = n j; elements = l j; bytes = b j })
 
-    pub record-wrote : (t₀ e₀ b₀ t₁ e₁ b₁ t₂ b₂ t₃ : List ℕ) → Wrote (inside past8) mt t₀ e₀ b₀ t₁ e₁ b₁
+    pub record-wrote : (t₀ e₀ b₀ t₁ e₁ b₁ t₂ b₂ t₃ : List ℕ) → Wrote (inside past-row) mt t₀ e₀ b₀ t₁ e₁ b₁
         → Wrote (inside (record { place = c .place; numbers = d .numbers; elements = d .elements; bytes = d .bytes })) it t₁ [] b₁ t₂ [] b₂
         → t₃ ≡ sets t₂ (c .numbers) (rowOf mine ((e .numbers - d .numbers) / 4))
         → Wrote c (flattenRecord (recordIn (drop (c .place) xs))) t₀ e₀ b₀ t₃ e₁ b₂
     record-wrote t₀ e₀ b₀ t₁ e₁ b₁ t₂ b₂ t₃ u w h =
         let row = rowOf mine (length its) in
         let rest = mt .numbers ++ it .numbers in
-        let dn : d .numbers ≡ c .numbers + 8 + length (mt .numbers) = ap (λ (z : Cursor). z .numbers) ed in
+        let dn : d .numbers ≡ c .numbers + rowWidth + length (mt .numbers) = ap (λ (z : Cursor). z .numbers) ed in
         let db : d .bytes ≡ c .bytes + length (mt .bytes) = ap (λ (z : Cursor). z .bytes) ed in
-        let tn : t₂ ≡ sets t₀ (c .numbers + 8) rest = w .numbers ∙ rw (u .numbers, dn) (sym (sets-append t₀ (c .numbers + 8) (mt .numbers) (it .numbers))) in
-        let eight : c .numbers + length row ≡ c .numbers + 8 = ap (λ k. c .numbers + k) (row-eight (length its)) in
+        let tn : t₂ ≡ sets t₀ (c .numbers + rowWidth) rest = w .numbers ∙ rw (u .numbers, dn) (sym (sets-append t₀ (c .numbers + rowWidth) (mt .numbers) (it .numbers))) in
+        let row-is : c .numbers + length row ≡ c .numbers + rowWidth = ap (λ k. c .numbers + k) (row-length (length its)) in
         let all : t₃ ≡ sets t₀ (c .numbers) (row ++ rest) =
         h ∙ rw (counted .1, tn)
-        (sets-swap t₀ (c .numbers) (c .numbers + 8) row rest (omega (arith, eight)) ∙ ap (λ k. sets (sets t₀ (c .numbers) row) k rest) (sym eight)
+        (sets-swap t₀ (c .numbers) (c .numbers + rowWidth) row rest (omega (arith, row-is)) ∙ ap (λ k. sets (sets t₀ (c .numbers) row) k rest) (sym row-is)
         ∙ sym (sets-append t₀ (c .numbers) row rest)) in
         rw record-table (record {
           numbers = all;
@@ -241,21 +242,21 @@ module _ (xs : List ℕ) (c : Cursor) (fits : RecordFits (drop (c .place) xs)) w
   -- the same, with the slices as the code has them after each call
   module _ (xl : ℕ) (t₀ e₀ b₀ : List ℕ)
       (r : Room c (recordSize (drop (c .place) xs)) (flattenRecord (recordIn (drop (c .place) xs))) xl (length t₀) (length e₀) (length b₀)) where
-    pub items-kept : (d : Cursor) → d ≡ moved (inside past8) ms mt → (t₁ e₁ b₁ : List ℕ) → Wrote (inside past8) mt t₀ e₀ b₀ t₁ e₁ b₁
+    pub items-kept : (d : Cursor) → d ≡ moved (inside past-row) ms mt → (t₁ e₁ b₁ : List ℕ) → Wrote (inside past-row) mt t₀ e₀ b₀ t₁ e₁ b₁
         → Room (inside (record { place = c .place; numbers = d .numbers; elements = d .elements; bytes = d .bytes }))
         (fillSize itemSize (semanticsIn mine (drop (c .place) xs)))
         (joined flattenItem (fillIn itemIn itemSize (semanticsIn mine (drop (c .place) xs)))) (length (semanticsIn mine (drop (c .place) xs))) (length t₁)
         (d .elements) (length b₁)
         × (32 + mine .metric ≤ mine .total) × (c .place + mine .total ≤ xl)
     items-kept d ed t₁ e₁ b₁ w =
-        let lt : length t₁ ≡ length t₀ = ap length (w .numbers) ∙ length-sets t₀ (c .numbers + 8) (mt .numbers) in
+        let lt : length t₁ ≡ length t₀ = ap length (w .numbers) ∙ length-sets t₀ (c .numbers + rowWidth) (mt .numbers) in
         let lb : length b₁ ≡ length b₀ = ap length (w .bytes) ∙ length-sets b₀ (c .bytes) (mt .bytes) in
         rw (lt, lb) (record-items xl (length t₀) (length e₀) (length b₀) r d ed)
 
-    pub header-room : (t₁ e₁ b₁ : List ℕ) → Wrote (inside past8) mt t₀ e₀ b₀ t₁ e₁ b₁ → (d : Cursor) (t₂ b₂ : List ℕ) → Wrote d it t₁ [] b₁ t₂ [] b₂
-        → c .numbers + 8 ≤ length t₂
+    pub header-room : (t₁ e₁ b₁ : List ℕ) → Wrote (inside past-row) mt t₀ e₀ b₀ t₁ e₁ b₁ → (d : Cursor) (t₂ b₂ : List ℕ) → Wrote d it t₁ [] b₁ t₂ [] b₂
+        → c .numbers + rowWidth ≤ length t₂
     header-room t₁ e₁ b₁ w d t₂ b₂ v =
-        let lt : length t₁ ≡ length t₀ = ap length (w .numbers) ∙ length-sets t₀ (c .numbers + 8) (mt .numbers) in
+        let lt : length t₁ ≡ length t₀ = ap length (w .numbers) ∙ length-sets t₀ (c .numbers + rowWidth) (mt .numbers) in
         let l2 : length t₂ ≡ length t₁ = ap length (v .numbers) ∙ length-sets t₁ (d .numbers) (it .numbers) in
         let h = record-header xl (length t₀) (length e₀) (length b₀) r in
         omega (arith, h, lt, l2)

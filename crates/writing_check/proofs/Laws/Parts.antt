@@ -153,9 +153,9 @@ first-on y ns es pool p ref rules r n e m i =
     part-on y ns es pool p ref rules (partBytes ref) r n e m (i ∙ head-none p ref (answer (upTo y) w))
 
 -- points that the rules let through have four bytes
-pub first-small : (word points : ℕ) → holds (firstRules word points) → points < 4294967296
+pub first-small : (mark word points : ℕ) → holds (firstRules mark word points) → points < 4294967296
 unfolding firstRules
-first-small word points c = ltb-true points 4294967296 (c .0)
+first-small mark word points c = ltb-true points 4294967296 (c .0)
 
 pub later-small : (marked : Bool) (points : ℕ) → holds (laterRules marked points) → points < 4294967296
 unfolding laterRules

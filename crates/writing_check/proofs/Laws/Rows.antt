@@ -5,8 +5,8 @@ use mathlib.Core.Path.{_≡_, refl, sym, ap, _∙_}
 use Prim.Native.Nat.{ℕ, _+_, _-_, _*_, _/_, _≤_, _<_}
 use borrow.Author.Tests.{le-leb, lt-leb, leb-true, leb-false}
 use lib.Dec.{leb}
-use lib.ListN.{length, getD, drop, length-drop}
-use lib.Seq.{drop-drop, getD-drop}
+use lib.ListN.{length, drop, length-drop}
+use lib.Seq.{drop-drop}
 use native.Mathlib.Nat.{add-zero}
 use native.Mathlib.Omega.{arith}
 use Rattle.fields.proofs.Laws.Chain.{step-holds, step-on, step-stop}
@@ -18,21 +18,21 @@ use Rattle.layout.specs.Answers.Enums.{refusal}
 use Rattle.layout.specs.Bytes.{All, flat}
 use Rattle.layout.specs.Layout.Fine.{FineSubobject}
 use Rattle.layout.specs.Layout.Sizes.{sumBy, itemBytes, partBytes, subobjectBytes, recordBytes}
-use Rattle.layout.specs.Shared.Mark.{takesMark}
+use Rattle.layout.specs.Shared.Mark.{hasMark}
 use Rattle.layout.specs.Shared.Reference.{referenceChecks}
 use Rattle.layout.specs.Shared.Row as Index
 use Rattle.layout.specs.Sheet.{Item, Part, Reference, Record, Table}
 use Rattle.layout.specs.Walk.{Walk, Answer, given, refused, answer, upTo, Check, must, dated, holds, checks, _>>=_, _>>_, ends}
 use Rattle.layout.specs.Writing.Items.{takeItem}
 use Rattle.layout.specs.Writing.Parts.{firstRules, laterRules, takePart}
-use Rattle.layout.specs.Writing.Rows.{RecordRow, rowIn, roomRules, nameRules, countRules, rowRules, takeInside, rowWalk}
+use Rattle.layout.specs.Writing.Rows.{RecordRow, recordFrom, rowIn, roomRules, nameRules, countRules, rowRules, takeInside, rowWalk}
 use Rattle.layout.specs.Writing.Tables.{table, join, joined, Taken, taken, many, flattenHeader, flattenPart, flattenItem, flattenRecord}
 use Rattle.layout.specs.declared.Refusal.{Refusal}
 use Rattle.layout.specs.Refusals.{TABLE}
 use Rattle.laws.proofs.Base.Chains.{four-then}
 use Rattle.laws.proofs.Base.Lists.{both-true}
 use Rattle.laws.proofs.Base.Walks.{answer-bind, bind-on, bind-refused, checks-append}
-use Rattle.laws.proofs.Writing.Parts.{FineFirst, firstYears, first-takes, subobject-takes, part-numbers}
+use Rattle.laws.proofs.Writing.Parts.{FineFirst, first-takes, subobject-takes, part-numbers}
 use Rattle.laws.proofs.Writing.Takes.{Takes, join-assoc, length-joined, many-takes}
 use Rattle.writing_check.proofs.Laws.Moves.{Went, went, stopped, number-after, moved-moved, moved-stop}
 use Rattle.writing_check.specs.Places.{capped, here, moved, movedOf, At}
@@ -44,8 +44,8 @@ use Rattle.writing_check.specs.declared.rows.Row.{Row}
 
 -- the numbers that a row calls for, by division
 
-pub room-short : (parts items left : ℕ) → 8 ≤ left → (left - 8) / 2 < parts → false ≡ leb (Index.rowSize parts items) left
-room-short parts items left h l = sym (lt-leb (8 + (2 * parts + 4 * items)) left (omega arith))
+pub room-short : (parts items left : ℕ) → Index.rowWidth ≤ left → (left - Index.rowWidth) / 2 < parts → false ≡ leb (Index.rowSize parts items) left
+room-short parts items left h l = sym (lt-leb (Index.rowSize parts items) left (omega arith))
 
 same-test : (a b c d : ℕ) → (a ≤ b → c ≤ d) → (c ≤ d → a ≤ b) → leb a b ≡ leb c d
 same-test a b c d f g = go (leb a b) refl
@@ -58,9 +58,9 @@ same-test a b c d f g = go (leb a b) refl
         go2 true i = let l : a ≤ b = g (leb-true c d i) in let m = leb-false a b e in absurd (omega (arith, l, m))
         go2 false i = refl
 
-pub room-is : (parts items left : ℕ) → 8 ≤ left → parts ≤ (left - 8) / 2
-    → leb items ((left - 8 - 2 * parts) / 4) ≡ leb (Index.rowSize parts items) left
-room-is parts items left h l = same-test items ((left - 8 - 2 * parts) / 4) (8 + (2 * parts + 4 * items)) left (λ a. omega arith) (λ a. omega arith)
+pub room-is : (parts items left : ℕ) → Index.rowWidth ≤ left → parts ≤ (left - Index.rowWidth) / 2
+    → leb items ((left - Index.rowWidth - 2 * parts) / 4) ≡ leb (Index.rowSize parts items) left
+room-is parts items left h l = same-test items ((left - Index.rowWidth - 2 * parts) / 4) (Index.rowSize parts items) left (λ a. omega arith) (λ a. omega arith)
 
 -- what checks one after another ask
 pub holds-append : (cs ds : List Check) → holds (cs ++ ds) → holds cs × holds ds
@@ -70,7 +70,7 @@ holds-append (dated t z k ∷ cs) ds h = holds-append cs ds h
 
 -- the numbers that the checks of a row leave room for
 pub record Roomy (a : RecordRow) (left : ℕ) : Type 0 where
-  pub size : 8 + (2 * a .parts + 4 * a .items) ≤ left
+  pub size : Index.rowSize (a .parts) (a .items) ≤ left
   pub some : 1 ≤ a .parts
 
 pub row-roomy : (a : RecordRow) (left : ℕ) → holds (allRules a left) → Roomy a left
@@ -91,17 +91,21 @@ module _ (y : ℕ) (ns es pool : List ℕ) (a : RecordRow) (p : Places) where
   ref = a .referenceBytes
 
   abbrev first : Answer (Taken Part)
-  first = answer (upTo y) (takePart ref (firstRules (a .word)) (p .number) (here t p))
+  first = answer (upTo y) (takePart ref (firstRules (a .mark) (a .word)) (p .number) (here t p))
 
-  abbrev later : Bool → Places → Answer (Taken (List Part))
-  later marked q = answer (upTo y) (many (a .parts - 1) 2 (takePart ref (laterRules marked)) (q .number) (here t q))
+  -- whether the record has the mark
+  abbrev marked : Bool
+  marked = hasMark (a .mark)
+
+  abbrev later : Places → Answer (Taken (List Part))
+  later q = answer (upTo y) (many (a .parts - 1) 2 (takePart ref (laterRules marked)) (q .number) (here t q))
 
   abbrev First : Places → Type 0
-  First q = Went first flattenPart (partBytes ref) (FineFirst ref (a .word)) t p q
+  First q = Went first flattenPart (partBytes ref) (FineFirst ref (a .mark) (a .word)) t p q
 
-  abbrev Later : Bool → Places → Places → Type 0
-  Later marked q s =
-      Went (later marked q) (joined flattenPart) (sumBy (subobjectBytes ref)) (λ l. (length l ≡ a .parts - 1) × All (FineSubobject ref marked) l) t q s
+  abbrev Later : Places → Places → Type 0
+  Later q s =
+      Went (later q) (joined flattenPart) (sumBy (subobjectBytes ref)) (λ l. (length l ≡ a .parts - 1) × All (FineSubobject ref marked) l) t q s
 
   abbrev inside : Answer (Taken Record)
   inside = answer (upTo y) (takeInside a (p .number) (here t p))
@@ -109,45 +113,25 @@ module _ (y : ℕ) (ns es pool : List ℕ) (a : RecordRow) (p : Places) where
   module _ (h : At ns pool p) (room : p .number + 2 ≤ length ns) (m : Moved) (e : m ≡ movedOf flattenPart (partBytes ref) p first) where
     pub first-went : (q : Places) → m ≡ Fine q → First q
     first-went q i =
-        went (upTo y) 2 (takePart ref (firstRules (a .word))) flattenPart (FineFirst ref (a .word)) firstYears (first-takes (upTo y) ref (a .word))
+        went (upTo y) 2 (takePart ref (firstRules (a .mark) (a .word))) flattenPart (FineFirst ref (a .mark) (a .word)) (λ b. []) (first-takes (upTo y) ref (a .mark) (a .word))
         (partBytes ref) t p h room m e q i
 
     pub first-stop : (q : Refusal) → m ≡ Refused q → Refused q ≡ movedOf insideTable insideBytes p inside
     unfolding takeInside
     first-stop q i =
-        let s = stopped (upTo y) 2 (takePart ref (firstRules (a .word))) flattenPart (FineFirst ref (a .word)) firstYears
-        (first-takes (upTo y) ref (a .word)) (partBytes ref) t p h room m e q i in
-        sym (ap (movedOf insideTable insideBytes p) (bind-refused (upTo y) (takePart ref (firstRules (a .word)) (p .number) (here t p)) _ s))
-
-  -- the first part's points stand in the table
-  first-points : (q : Places) (w : First q) → getD ns (p .number) 0 ≡ w .value .points
-  unfolding flattenPart
-  first-points q w =
-      sym (ap (λ u. getD (u .numbers) 0 0) (w .whole) ∙ getD-drop (p .number) ns 0 0 ∙ ap (λ k. getD ns k 0) (add-zero (p .number)))
+        let s = stopped (upTo y) 2 (takePart ref (firstRules (a .mark) (a .word))) flattenPart (FineFirst ref (a .mark) (a .word)) (λ b. [])
+        (first-takes (upTo y) ref (a .mark) (a .word)) (partBytes ref) t p h room m e q i in
+        sym (ap (movedOf insideTable insideBytes p) (bind-refused (upTo y) (takePart ref (firstRules (a .mark) (a .word)) (p .number) (here t p)) _ s))
 
   abbrev items : ℕ → Table → Walk (Taken (List Item))
   items i u = many (a .items) 4 takeItem i u
 
   abbrev made : Part → List Part → Taken (List Item) → Taken Record
-  made f l i =
-      taken (record {
-        code = a .code;
-        inGroup = a .inGroup;
-        group = a .group;
-        reference = ref;
-        generalisation = a .generalisation;
-        word = a .word;
-        first = f;
-        subobjects = l;
-        items = i .value;
-      }) (i .left)
+  made f l i = taken (recordFrom a f l (i .value)) (i .left)
 
-  module _ (q : Places) (w : First q) (marked : Bool) (k : marked ≡ takesMark (getD ns (p .number) 0)) where
+  module _ (q : Places) (w : First q) where
     pub first-next : q .number ≡ p .number + 2
-    first-next = number-after first flattenPart (partBytes ref) (FineFirst ref (a .word)) t p q 2 part-numbers w
-
-    mark-is : marked ≡ takesMark (w .value .points)
-    mark-is = k ∙ ap takesMark (first-points q w)
+    first-next = number-after first flattenPart (partBytes ref) (FineFirst ref (a .mark) (a .word)) t p q 2 part-numbers w
 
     abbrev laters : Walk (Taken (List Part))
     laters = many (a .parts - 1) 2 (takePart ref (laterRules marked)) (q .number) (here t q)
@@ -158,18 +142,17 @@ module _ (y : ℕ) (ns es pool : List ℕ) (a : RecordRow) (p : Places) where
     after-first : inside ≡ answer (upTo y) (laters >>= andItems)
     unfolding takeInside
     after-first =
-        bind-on (upTo y) (takePart ref (firstRules (a .word)) (p .number) (here t p)) _ (taken (w .value) (here t q)) (w .is)
-        ∙ ap (λ b. answer (upTo y) (many (a .parts - 1) 2 (takePart ref (laterRules b)) (p .number + 2) (here t q) >>= andItems)) (sym mark-is)
+        bind-on (upTo y) (takePart ref (firstRules (a .mark) (a .word)) (p .number) (here t p)) _ (taken (w .value) (here t q)) (w .is)
         ∙ ap (λ i. answer (upTo y) (many (a .parts - 1) 2 (takePart ref (laterRules marked)) i (here t q) >>= andItems)) (sym first-next)
 
     module _ (h : At ns pool q) (room : q .number + 2 * (a .parts - 1) ≤ length ns) (m : Moved)
-        (e : m ≡ movedOf (joined flattenPart) (sumBy (subobjectBytes ref)) q (later marked q)) where
+        (e : m ≡ movedOf (joined flattenPart) (sumBy (subobjectBytes ref)) q (later q)) where
       takes : Takes (upTo y) ((a .parts - 1) * 2) (many (a .parts - 1) 2 (takePart ref (laterRules marked))) (joined flattenPart)
           (λ l. (length l ≡ a .parts - 1) × All (FineSubobject ref marked) l) (flat (λ b. []))
       takes = many-takes (upTo y) 2 (takePart ref (laterRules marked)) flattenPart (FineSubobject ref marked) (λ b. [])
           (subobject-takes (upTo y) ref marked) part-numbers (a .parts - 1)
 
-      pub laters-went : (s : Places) → m ≡ Fine s → Later marked q s
+      pub laters-went : (s : Places) → m ≡ Fine s → Later q s
       laters-went s i =
           went (upTo y) ((a .parts - 1) * 2) (many (a .parts - 1) 2 (takePart ref (laterRules marked))) (joined flattenPart)
           (λ l. (length l ≡ a .parts - 1) × All (FineSubobject ref marked) l) (flat (λ b. [])) takes
@@ -177,10 +160,10 @@ module _ (y : ℕ) (ns es pool : List ℕ) (a : RecordRow) (p : Places) where
 
       pub laters-stop : (z : Refusal) → m ≡ Refused z → Refused z ≡ movedOf insideTable insideBytes p inside
       laters-stop z i =
-          let s = moved-stop (joined flattenPart) (sumBy (subobjectBytes ref)) q (later marked q) z (sym e ∙ i) in
+          let s = moved-stop (joined flattenPart) (sumBy (subobjectBytes ref)) q (later q) z (sym e ∙ i) in
           sym (ap (movedOf insideTable insideBytes p) (after-first ∙ bind-refused (upTo y) laters andItems s))
 
-    module _ (s : Places) (v : Later marked q s) where
+    module _ (s : Places) (v : Later q s) where
       pub laters-next : 1 ≤ a .parts → s .number ≡ p .number + 2 * a .parts
       laters-next some =
           let n = ap (λ (u : Places). u .number) (v .to) in
@@ -222,9 +205,9 @@ module _ (y : ℕ) (ns es pool : List ℕ) (a : RecordRow) (p : Places) where
 
 -- a row, of which u is left
 abbrev rowWith : RecordRow → ℕ → Table → Walk (Taken Record)
-rowWith r i u = rowRules r i (length (u .numbers)) >> takeInside r (i + 8) (table (drop 8 (u .numbers)) (u .elements) (u .bytes))
+rowWith r i u = rowRules r i (length (u .numbers)) >> takeInside r (i + Index.rowWidth) (table (drop Index.rowWidth (u .numbers)) (u .elements) (u .bytes))
 
-row-rules : {A : Type 0} (r : RecordRow) (i left : ℕ) (w : Walk A) → 8 ≤ left → (rowRules r i left >> w) ≡ (checks i (allRules r left) >> w)
+row-rules : {A : Type 0} (r : RecordRow) (i left : ℕ) (w : Walk A) → Index.rowWidth ≤ left → (rowRules r i left >> w) ≡ (checks i (allRules r left) >> w)
 unfolding rowRules roomRules
 row-rules r i left w h =
     let S : List Check = must (leb (Index.rowSize (r .parts) (r .items)) left) 14 0 ∷ [] in
@@ -232,7 +215,7 @@ row-rules r i left w h =
     let R = referenceChecks 3 3 3 (r .referenceBytes) in
     let C = countRules r in
     four-then i (roomRules r left) N R C w
-    ∙ rw (le-leb 8 left h) (sym (checks-append i S (N ++ (R ++ C)) w
+    ∙ rw (le-leb Index.rowWidth left h) (sym (checks-append i S (N ++ (R ++ C)) w
     ∙ ap (λ v. checks i S >> v) (checks-append i N (R ++ C) w
     ∙ ap (λ v. checks i N >> v) (checks-append i R C w))))
 
@@ -243,19 +226,19 @@ module _ (y : ℕ) (ns es pool : List ℕ) (p : Places) where
   abbrev one : Answer (Taken Record)
   one = answer (upTo y) (rowWalk (p .number) (here all p))
 
-  pub row-short : length ns - p .number < 8 → Refused (refusal TABLE (p .number) 0) ≡ movedOf flattenRecord recordBytes p one
+  pub row-short : length ns - p .number < Index.rowWidth → Refused (refusal TABLE (p .number) 0) ≡ movedOf flattenRecord recordBytes p one
   unfolding rowWalk rowRules roomRules
   row-short h =
-      rw (lt-leb 8 (length (drop (p .number) ns)) (omega (arith, h, length-drop (p .number) ns)), add-zero (p .number)) refl
+      rw (lt-leb Index.rowWidth (length (drop (p .number) ns)) (omega (arith, h, length-drop (p .number) ns)), add-zero (p .number)) refl
 
-  module _ (h : 8 ≤ length ns - p .number) (a : Row) (row : rowOf a ≡ rowIn (drop (p .number) ns)) (r : Step)
+  module _ (h : Index.rowWidth ≤ length ns - p .number) (a : Row) (row : rowOf a ≡ rowIn (drop (p .number) ns)) (r : Step)
       (n : Next Stp.Fine y (p .number) (allRules (rowOf a) (length ns - p .number)) r) (len : ℕ) (l : len ≡ capped (p .length + 32)) where
-    -- the places after the eight numbers
+    -- the places after the row's numbers
     abbrev after : Places
-    after = record { number = p .number + 8; element = p .element; byte = p .byte; length = len }
+    after = record { number = p .number + Index.rowWidth; element = p .element; byte = p .byte; length = len }
 
     abbrev rest : Walk (Taken Record)
-    rest = takeInside (rowOf a) (p .number + 8) (here all after)
+    rest = takeInside (rowOf a) (p .number + Index.rowWidth) (here all after)
 
     row-walk : rowWalk (p .number) (here all p) ≡ (checks (p .number) (allRules (rowOf a) (length ns - p .number)) >> rest)
     unfolding rowWalk
@@ -263,8 +246,8 @@ module _ (y : ℕ) (ns es pool : List ℕ) (p : Places) where
         let u = here all p in
         let d : length (drop (p .number) ns) ≡ length ns - p .number = length-drop (p .number) ns in
         ap (λ z. rowWith z (p .number) u) (sym row)
-        ∙ ap (λ z. rowRules (rowOf a) (p .number) (length (drop (p .number) ns)) >> takeInside (rowOf a) (p .number + 8) (table z (u .elements) (u .bytes)))
-        (drop-drop 8 (p .number) ns)
+        ∙ ap (λ z. rowRules (rowOf a) (p .number) (length (drop (p .number) ns)) >> takeInside (rowOf a) (p .number + Index.rowWidth) (table z (u .elements) (u .bytes)))
+        (drop-drop Index.rowWidth (p .number) ns)
         ∙ ap (λ z. rowRules (rowOf a) (p .number) z >> rest) d
         ∙ row-rules (rowOf a) (p .number) (length ns - p .number) rest h
 

@@ -9,7 +9,7 @@ use native.Mathlib.Omega.{arith}
 use Rattle.writing_emit.specs.Cursors.{tableOf, ahead, moved}
 use Rattle.writing_emit.specs.Parts.{PartFits, metricTable, MetricFits, metricBytes}
 use Rattle.writing_emit.specs.Pieces.{Room, Piece, Emitted, Counted, pairTable, Both, pairBytes}
-use Rattle.writing_emit.specs.Records.{lengthsOf, namesOf, marksOf, countsOf, headerOf, RowFits}
+use Rattle.writing_emit.specs.Records.{lengthsOf, namesOf, flagsOf, countsOf, headerOf, RowFits}
 use Rattle.writing_emit.specs.declared.cursors.Cursor.{Cursor}
 use Rattle.fields.proofs.Laws.Put.{sets-append, sets-swap}
 use Rattle.fields.specs.Shapes.{shapeOf}
@@ -17,11 +17,12 @@ use Rattle.fields.specs.declared.shapes.Shape.{Shape}
 use Rattle.layout.specs.Bytes.{All, flat}
 use Rattle.layout.specs.Layout.Encode.{encodeItem, encodePart, encodeSubobject, encodeMetric, encodeSemantics, encodeHeader, encodeRecord}
 use Rattle.layout.specs.Layout.Fine.{FineItem, FineSubobject, FineRecord}
-use Rattle.layout.specs.Shared.Mark.{takesMark}
+use Rattle.layout.specs.Shared.Mark.{hasMark}
 use Rattle.layout.specs.Shared.Row
 use Rattle.layout.specs.Sheet.{Part, Reference, Record, Table}
 use Rattle.layout.specs.Writing.Tables.{table, join, joined, flattenHeader, flattenPart, flattenItem, flattenRecord}
 use Rattle.laws.proofs.Encoding.Lengths.{length-header, length-record}
+use Rattle.laws.proofs.Reading.Records.{mark-on}
 use Rattle.laws.proofs.Writing.Items.{items-flat}
 use Rattle.laws.proofs.Writing.Records.{fine-near, near-first, bytes-of-number, record-numbers}
 use Rattle.laws.proofs.Writing.Takes.{join-assoc, table-path}
@@ -97,7 +98,7 @@ module _ (ns es bs : List ℕ) (c : Cursor) (o₀ : List ℕ) (p : Piece flatten
       ap (λ l. Row.referenceOf (Row.nth l Row.reference)) (sym row-is) ∙ bytes-of-number (r .reference) (p .fine .byte20) (p .fine .byte21) (p .fine .byte22)
 
   pub row-fits : RowFits (drop (c .number) ns)
-  unfolding flattenRecord flattenHeader
+  unfolding flattenRecord flattenHeader flattenPart
   row-fits =
       let f = p .fine in
       subst (λ l. RowFits l) row-is (record {
@@ -108,6 +109,7 @@ module _ (ns es bs : List ℕ) (c : Cursor) (o₀ : List ℕ) (p : Piece flatten
         word = f .word;
         some = omega arith;
         subobjects = omega (arith, f .count);
+        points = mark-on (r .mark) (r .first .points) (r .word) (f .mark) (f .counted) .3;
       })
 
   abbrev metric : ℕ
@@ -120,7 +122,7 @@ module _ (ns es bs : List ℕ) (c : Cursor) (o₀ : List ℕ) (p : Piece flatten
   header = encodeHeader r metric semantics
 
   header-is : headerOf (drop (c .number) ns) metric semantics ≡ header
-  unfolding headerOf lengthsOf namesOf marksOf countsOf encodeHeader flattenRecord flattenHeader flattenPart
+  unfolding headerOf lengthsOf namesOf flagsOf countsOf encodeHeader flattenRecord flattenHeader flattenPart
   header-is =
       let one : 1 + length (r .subobjects) - 1 ≡ length (r .subobjects) = omega arith in
       let e = bytes-of-number (r .reference) (p .fine .byte20) (p .fine .byte21) (p .fine .byte22) in
@@ -128,14 +130,14 @@ module _ (ns es bs : List ℕ) (c : Cursor) (o₀ : List ℕ) (p : Piece flatten
       ∙ rw (ap (λ (x : Reference). x .byte20) e, ap (λ (x : Reference). x .byte21) e, ap (λ (x : Reference). x .byte22) e, one) refl
 
   -- past the header, which is written last
-  abbrev pub past32 : Cursor
-  past32 = record { number = c .number + 8; element = c .element; byte = c .byte; out = c .out + 32 }
+  abbrev pub past-header : Cursor
+  past-header = record { number = c .number + Row.rowWidth; element = c .element; byte = c .byte; out = c .out + 32 }
 
-  past-is : moved c (flattenHeader r) header ≡ past32
+  past-is : moved c (flattenHeader r) header ≡ past-header
   unfolding flattenHeader
   past-is =
       let o : c .out + length header ≡ c .out + 32 = ap (λ k. c .out + k) (length-header r metric semantics) in
-      λ j. record { number = c .number + 8; element = add-zero (c .element) j; byte = add-zero (c .byte) j; out = o j }
+      λ j. record { number = c .number + Row.rowWidth; element = add-zero (c .element) j; byte = add-zero (c .byte) j; out = o j }
 
   abbrev inside : Part × List Part
   inside = (r .first, r .subobjects)
@@ -158,12 +160,12 @@ module _ (ns es bs : List ℕ) (c : Cursor) (o₀ : List ℕ) (p : Piece flatten
   whole = sym (join-assoc (flattenHeader r) (join (metricTable inside) its) (p .rest))
       ∙ subst (λ t. join t (p .rest) ≡ ahead c (tableOf ns es bs)) table-is (p .is)
 
-  inside-is : join (join (metricTable inside) its) (p .rest) ≡ ahead past32 (tableOf ns es bs)
+  inside-is : join (join (metricTable inside) its) (p .rest) ≡ ahead past-header (tableOf ns es bs)
   inside-is =
       subst (λ d. join (join (metricTable inside) its) (p .rest) ≡ ahead d (tableOf ns es bs)) past-is
       (ahead-moved c (flattenHeader r) (join (join (metricTable inside) its) (p .rest)) header (tableOf ns es bs) whole)
 
-  inside-room : Room past32 (join (metricTable inside) its) (length body) (tableOf ns es bs) (length o₀)
+  inside-room : Room past-header (join (metricTable inside) its) (length body) (tableOf ns es bs) (length o₀)
   inside-room =
       let q : Room c (join (flattenHeader r) (join (metricTable inside) its)) (length (header ++ body)) (tableOf ns es bs) (length o₀) =
       subst (λ x. Room c (join (flattenHeader r) (join (metricTable inside) its)) (length x) (tableOf ns es bs) (length o₀)) record-is
@@ -174,7 +176,7 @@ module _ (ns es bs : List ℕ) (c : Cursor) (o₀ : List ℕ) (p : Piece flatten
   inside-fits : MetricFits (shapeOf (r .reference)) (length (r .subobjects)) inside
   inside-fits =
       let first = near-first r (fine-near r (p .fine)) in
-      let F : Part → Type 0 = FineSubobject (r .reference) (takesMark (r .first .points)) in
+      let F : Part → Type 0 = FineSubobject (r .reference) (hasMark (r .mark)) in
       let later = all-map F (PartFits (shapeOf (r .reference)))
       (λ a f. record { points = omega (arith, f .n1); elements = f .part .elements; label = f .part .label }) (r .subobjects) (p .fine .subobjects) in
       (record { points = first .points; elements = first .part .elements; label = first .part .label }, (refl, later))
@@ -206,7 +208,7 @@ module _ (ns es bs : List ℕ) (c : Cursor) (o₀ : List ℕ) (p : Piece flatten
 
     -- metric and items, one after another
     body-piece : Piece (pairTable metricTable (joined flattenItem)) (Both (MetricFits s n) (Counted k FineItem))
-        (pairBytes (metricBytes s) (flat encodeItem)) past32
+        (pairBytes (metricBytes s) (flat encodeItem)) past-header
         (tableOf ns es bs) (length o₀)
     body-piece = record {
       value = (inside, r .items);
@@ -214,7 +216,7 @@ module _ (ns es bs : List ℕ) (c : Cursor) (o₀ : List ℕ) (p : Piece flatten
       is = inside-is;
       fine = body-fits;
       room =
-          subst (λ x. Room past32 (join (metricTable inside) its) (length x) (tableOf ns es bs) (length o₀))
+          subst (λ x. Room past-header (join (metricTable inside) its) (length x) (tableOf ns es bs) (length o₀))
           (ap₂ (λ a b. a ++ b) (sym metric-is) (sym semantics-is)) inside-room;
     }
 
@@ -222,17 +224,17 @@ module _ (ns es bs : List ℕ) (c : Cursor) (o₀ : List ℕ) (p : Piece flatten
     metric-unique = pair-unique flattenPart (PartFits s) (part-unique s) (joined flattenPart) (Counted n (PartFits s))
         (list-unique flattenPart (PartFits s) (part-unique s) n)
 
-    pub metric-ask : Piece metricTable (MetricFits s (getD ns (c .number + 6) 0 - 1)) (metricBytes s) past32 (tableOf ns es bs) (length o₀)
+    pub metric-ask : Piece metricTable (MetricFits s (getD ns (c .number + 6) 0 - 1)) (metricBytes s) past-header (tableOf ns es bs) (length o₀)
     metric-ask =
         pair-first metricTable (MetricFits s n) (metricBytes s) (joined flattenItem) (Counted k FineItem) (flat encodeItem) metric-unique
-        (list-unique flattenItem FineItem item-unique k) past32 (tableOf ns es bs) o₀ body-piece
+        (list-unique flattenItem FineItem item-unique k) past-header (tableOf ns es bs) o₀ body-piece
 
     module _ (o₁ : List ℕ) (d : Cursor)
-        (one : Emitted metricTable (MetricFits s (getD ns (c .number + 6) 0 - 1)) (metricBytes s) past32 (tableOf ns es bs) o₀ o₁ d) where
+        (one : Emitted metricTable (MetricFits s (getD ns (c .number + 6) 0 - 1)) (metricBytes s) past-header (tableOf ns es bs) o₀ o₁ d) where
       items-piece : Piece (joined flattenItem) (Counted k FineItem) (flat encodeItem) d (tableOf ns es bs) (length o₁)
       items-piece =
           pair-second metricTable (MetricFits s n) (metricBytes s) (joined flattenItem) (Counted k FineItem) (flat encodeItem) metric-unique
-          (list-unique flattenItem FineItem item-unique k) past32 (tableOf ns es bs) o₀ body-piece o₁ d one
+          (list-unique flattenItem FineItem item-unique k) past-header (tableOf ns es bs) o₀ body-piece o₁ d one
 
       pub items-ask : Piece (joined flattenItem) (Counted (getD ns (c .number + 7) 0) FineItem) (flat encodeItem) (noElements d) (tableOf ns [] bs) (length o₁)
       items-ask = flat-ask ns es bs d (length o₁) k items-piece
@@ -243,18 +245,18 @@ module _ (ns es bs : List ℕ) (c : Cursor) (o₀ : List ℕ) (p : Piece flatten
         end = record { number = e .number; element = d .element; byte = e .byte; out = e .out }
 
         both : Emitted (pairTable metricTable (joined flattenItem)) (Both (MetricFits s n) (Counted k FineItem))
-            (pairBytes (metricBytes s) (flat encodeItem)) past32
+            (pairBytes (metricBytes s) (flat encodeItem)) past-header
             (tableOf ns es bs) o₀ o₂ end
         both =
             pair-done metricTable (MetricFits s n) (metricBytes s) (joined flattenItem) (Counted k FineItem) (flat encodeItem) metric-unique
-            (list-unique flattenItem FineItem item-unique k) past32 (tableOf ns es bs) o₀ body-piece o₁ d one o₂ end
+            (list-unique flattenItem FineItem item-unique k) past-header (tableOf ns es bs) o₀ body-piece o₁ d one o₂ end
             (flat-did ns es bs d (length o₁) k items-piece o₁ o₂ e two)
 
-        did : (end ≡ moved past32 (join (metricTable inside) its) body) × (o₂ ≡ sets o₀ (c .out + 32) body)
+        did : (end ≡ moved past-header (join (metricTable inside) its) body) × (o₂ ≡ sets o₀ (c .out + 32) body)
         did =
             let q = both .all (inside, r .items) (p .rest) body-fits inside-is in
             let b : metricBytes s inside ++ flat encodeItem (r .items) ≡ body = ap₂ (λ x y. x ++ y) metric-is semantics-is in
-            (q .0 ∙ ap (λ x. moved past32 (join (metricTable inside) its) x) b, q .1 ∙ ap (λ x. sets o₀ (c .out + 32) x) b)
+            (q .0 ∙ ap (λ x. moved past-header (join (metricTable inside) its) x) b, q .1 ∙ ap (λ x. sets o₀ (c .out + 32) x) b)
 
         middle : d .out ≡ c .out + 32 + metric
         middle =

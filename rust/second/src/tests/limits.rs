@@ -3,12 +3,12 @@
 use super::*;
 use crate::{check, read, record_at, write, LIMIT};
 
-/// One record of long points with every bit set, and so many empty
-/// subobjects of four bytes each.
+/// One record of long points with every bit set, under the mark, and so many
+/// empty subobjects of four bytes each.
 fn table_of(points: u64, subobjects: u64) -> Table {
-    let mut numbers = vec![0, 0, 0, 0x04_0400, 255, points, 1 + subobjects, 0];
+    let mut numbers = vec![0, 0, 0, 0x04_0400, 255, points, 1 + subobjects, 0, 1];
     numbers.extend([points, 0]);
-    numbers.resize(10 + 2 * subobjects as usize, 0);
+    numbers.resize(11 + 2 * subobjects as usize, 0);
     Table { numbers, elements: vec![u64::MAX; 2 * points as usize], bytes: vec![] }
 }
 
@@ -28,6 +28,18 @@ fn a_sheet_of_the_limit() {
     assert_eq!(record_at(&sheet, 2004, 0).unwrap().points, MOST_POINTS);
     let room = write(2004, &head_e(), &table, LIMIT - 1);
     assert_eq!(room, Err(refused(15, 0)));
+}
+
+#[test]
+fn an_island_that_fills_a_sheet() {
+    let island = MOST_POINTS - SHORE - 1;
+    let mut table = table_of(SHORE, 1);
+    table.numbers[LATER_POINTS as usize] = island;
+    table.elements.resize(2 * (SHORE + island) as usize, 1);
+    let sheet = write(2004, &head_e(), &table, LIMIT).unwrap();
+    let [low, high, upper_low, upper_high] = (island as u32).to_le_bytes();
+    assert_eq!(sheet[484 + 160..][..4], [upper_low, upper_high, low, high]);
+    assert_eq!(read(&sheet, 2004).unwrap().table, table);
 }
 
 #[test]

@@ -93,9 +93,14 @@ fn record(reference: [u8; 3], word: u32, subobjects: u16, points: u16, metric: &
 
 const POINT_3_4: [u8; 4] = [3, 0, 4, 0];
 
+/// The record of sheet P.
+fn record_p() -> Vec<u8> {
+    record([2, 0, 0], 0, 0, 1, &POINT_3_4, &[])
+}
+
 /// Sheet P.
 fn sheet_p() -> Vec<u8> {
-    sheet_with(&[record([2, 0, 0], 0, 0, 1, &POINT_3_4, &[])])
+    sheet_with(&[record_p()])
 }
 
 /// Sheet Q.
@@ -124,9 +129,27 @@ fn head_e() -> Head {
 }
 
 fn table_p() -> Table {
-    Table { numbers: vec![0, 0, 0, 2, 255, 0, 1, 0, 1, 0], elements: vec![3, 4], bytes: vec![] }
+    Table { numbers: vec![0, 0, 0, 2, 255, 0, 1, 0, 0, 1, 0], elements: vec![3, 4], bytes: vec![] }
 }
 
 fn table_q() -> Table {
-    Table { numbers: vec![0, 0, 0, 0x0202, 255, 0, 1, 1, 1, 0, 1, 2, 0xFF, 2], elements: vec![3, 4], bytes: vec![0xF9, 4] }
+    Table { numbers: vec![0, 0, 0, 0x0202, 255, 0, 1, 1, 0, 1, 0, 1, 2, 0xFF, 2], elements: vec![3, 4], bytes: vec![0xF9, 4] }
 }
+
+/// Where numbers stand in a table's first row: the record's own, then points
+/// and text length of its first part and the points of its second.
+const REFERENCE: u64 = 3;
+const PARTS: u64 = 6;
+const ITEMS: u64 = 7;
+const MARK: u64 = 8;
+const POINTS: u64 = 9;
+const TEXT_LENGTH: u64 = 10;
+const LATER_POINTS: u64 = 11;
+
+/// The most that four bytes hold.
+const MOST: u64 = u32::MAX as u64;
+
+/// A shore of ten points, and islands about the most that two bytes count; the
+/// last is the lake's of document 02, request 2.
+const SHORE: u64 = 10;
+const ISLANDS: [u64; 3] = [65_535, 65_536, 70_000];

@@ -29,7 +29,9 @@ fn add_record(chance: &mut Chance, table: &mut Table) {
     let localisation = chance.below(6);
     let has_text = matches!(localisation, 3 | 5) && chance.below(2) == 0;
     let items = chance.below(4);
-    let parts = 1 + chance.below(3);
+    let parts: Vec<u64> = (0..1 + chance.below(3)).map(|_| chance.below(4)).collect();
+    let mark = u64::from(chance.below(7) == 0);
+    let any_word = chance.below(1 << 32);
     let byte_20 = localisation | chance.below(2) << 4;
     let byte_21 = chance.below(256) & 0xF5 | u64::from(items > 0) << 1;
     let byte_22 = chance.below(256) & 0xE6 | u64::from(has_text) << 3;
@@ -39,9 +41,10 @@ fn add_record(chance: &mut Chance, table: &mut Table) {
         chance.below(1 << 16),
         byte_20 | byte_21 << 8 | byte_22 << 16,
         chance.below(256),
-        chance.below(1 << 32),
-        parts,
+        if mark == 1 { parts[0] } else { any_word },
+        parts.len() as u64,
         items,
+        mark,
     ]);
     let width = match (byte_21 & 4 != 0, byte_22 & 4 != 0) {
         (false, false) => 16,
@@ -49,8 +52,7 @@ fn add_record(chance: &mut Chance, table: &mut Table) {
         _ => 32,
     };
     let height = if byte_22 & 2 == 0 { 0 } else { width.max(32) };
-    for _ in 0..parts {
-        let points = chance.below(4);
+    for points in parts {
         let text_length = if has_text { chance.below(4) } else { 0 };
         table.numbers.extend([points, text_length]);
         for _ in 0..points {

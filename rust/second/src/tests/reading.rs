@@ -1,7 +1,7 @@
-//! Reading: document 01's cases, each refusal and its place, and their order.
+//! Reading: the documents' cases, each refusal and its place, and their order.
 
 use super::*;
-use crate::{check, read, record_at, Record};
+use crate::{check, read, record_at, write, Record};
 
 /// The refusal of a sheet, which reading and checking give alike.
 fn refusal(sheet: &[u8], year: u32) -> Refusal {
@@ -15,9 +15,14 @@ fn refusal_p(changes: &[(usize, &[u8])]) -> Refusal {
     refusal(&changed(&sheet_p(), changes), 2017)
 }
 
-/// The refusal of sheet P with another record, at setting 2017.
+/// The refusal of sheet P with another record, at setting 2017. Behind P's own
+/// record it is the same and stands as much further on.
 fn refusal_record(record: Vec<u8>) -> Refusal {
-    refusal(&sheet_with(&[record]), 2017)
+    let alone = refusal(&sheet_with(std::slice::from_ref(&record)), 2017);
+    let first = record_p();
+    let place = alone.place + first.len() as u64;
+    assert_eq!(refusal(&sheet_with(&[first, record]), 2017), Refusal { place, ..alone });
+    alone
 }
 
 /// The refusal of sheet P with this semantics, at setting 2017.
@@ -62,15 +67,15 @@ fn sheet_q_is_read() {
 fn sizes_are_told() {
     let sizes = |sheet: &[u8]| check(sheet, 2017).unwrap();
     assert_eq!(sizes(&sheet_e()), Sizes { sum: 795, records: 0, numbers: 0, elements: 0, bytes: 0 });
-    assert_eq!(sizes(&sheet_p()), Sizes { sum: 1865, records: 1, numbers: 10, elements: 2, bytes: 0 });
-    assert_eq!(sizes(&sheet_q()), Sizes { sum: 2384, records: 1, numbers: 14, elements: 2, bytes: 2 });
+    assert_eq!(sizes(&sheet_p()), Sizes { sum: 1865, records: 1, numbers: 11, elements: 2, bytes: 0 });
+    assert_eq!(sizes(&sheet_q()), Sizes { sum: 2384, records: 1, numbers: 15, elements: 2, bytes: 2 });
     // A label of two parts in three dimensions with the texts "ab" and "c",
     // then P's record.
     let metric = [&[7; 8][..], b"\x02ab\0", &[0, 0, 2, 0], &[8; 16], b"\x01c\0"].concat();
     let label = record([3, 0, 0x0A], 0, 1, 1, &metric, &[]);
-    let two = sheet_with(&[label, record([2, 0, 0], 0, 0, 1, &POINT_3_4, &[])]);
+    let two = sheet_with(&[label, record_p()]);
     let sum = u64::from(u32::from_le_bytes([two[12], two[13], two[14], two[15]]));
-    assert_eq!(sizes(&two), Sizes { sum, records: 2, numbers: 8 + 2 * 2 + 10, elements: 3 + 6 + 2, bytes: 3 });
+    assert_eq!(sizes(&two), Sizes { sum, records: 2, numbers: 9 + 2 * 2 + 11, elements: 3 + 6 + 2, bytes: 3 });
     for sheet in [sheet_e(), sheet_p(), sheet_q(), two] {
         assert_eq!(sizes(&sheet), sizes_of(&read(&sheet, 2017).unwrap()));
     }
@@ -171,6 +176,7 @@ fn years_of_features() {
     let years = [1999, 2004, 2006, 2008, 2012, 2014, 2015, 2016, 2017];
     let item_128 = [1, 0, 128, 0xFF, 2, 0, 0, 0, 0, 0];
     let marked = record([2, 0, 0], 65535, 0, 65535, &[7; 4 * 65535], &[]);
+    let marked_one = record([2, 0, 0], 1, 0, 65535, &POINT_3_4, &[]);
     let p = sheet_p();
     let cases: Vec<(Vec<u8>, u64, u64)> = vec![
         (changed(&p, &[(98, &[3])]), 98, 2006),
@@ -191,6 +197,7 @@ fn years_of_features() {
         (changed(&p, &[(474, &[0xC0])]), 474, 2004),
         (sheet_with_item(&item_128), 490, 2012),
         (sheet_with(&[marked]), 482, 2004),
+        (sheet_with(&[record_p(), marked_one]), 518, 2004),
     ];
     for (sheet, place, feature) in cases {
         for year in years {
@@ -322,7 +329,7 @@ fn metric_parts() {
 
     let island = record([2, 0, 0], 7, 1, 0, &[0, 0, 1, 0, 8, 0, 9, 1], &[]);
     let table = read(&sheet_with(&[island]), 1999).unwrap().table;
-    assert_eq!(table.numbers, [0, 0, 0, 2, 255, 7, 2, 0, 0, 0, 1, 0]);
+    assert_eq!(table.numbers, [0, 0, 0, 2, 255, 7, 2, 0, 0, 0, 0, 1, 0]);
     assert_eq!(table.elements, [8, 0x109]);
 }
 
@@ -352,7 +359,7 @@ fn points_of_every_shape() {
         let sheet = sheet_with(&[record(reference, 0, 0, 2, &metric, &[])]);
         let reading = read(&sheet, 1999).unwrap();
         assert_eq!(reading.table.elements, elements);
-        let written = crate::write(1999, &reading.head, &reading.table, sheet.len());
+        let written = write(1999, &reading.head, &reading.table, sheet.len());
         assert_eq!(written, Ok(sheet));
     }
 }
@@ -366,7 +373,7 @@ fn texts_of_parts() {
     for localisation in [3, 5] {
         let table = text(localisation, &[3, 0, 4, 0, 3, b'a', 0, b'c', 0]);
         let table = table.unwrap().table;
-        assert_eq!(table.numbers[8..], [1, 3]);
+        assert_eq!(table.numbers[POINTS as usize..], [1, 3]);
         assert_eq!(table.bytes, [b'a', 0, b'c']);
         assert!(text(localisation, &[3, 0, 4, 0, 0, 0]).is_ok());
     }
@@ -381,30 +388,83 @@ fn texts_of_parts() {
     assert_eq!(text(3, &[3, 0, 4, 0, 0, 0, 0]), Err(refused(10, 490)));
 }
 
-#[test]
-fn the_mark() {
-    let metric = vec![1; 4 * 65536];
-    let sheet = |word, length: usize| {
-        let record = record([2, 0, 0], word, 0, 65535, &metric[..length], &[]);
-        sheet_with(&[record])
-    };
-    assert_eq!(refusal(&sheet(65534, 4 * 65534), 2017), refused(11, 476));
-    assert_eq!(refusal(&sheet(0, 0), 2017), refused(11, 476));
-    assert_eq!(refusal(&sheet(0, 0), 1999), too_new(482, 2004));
-    assert_eq!(refusal(&sheet(u32::MAX, 4), 2017), refused(10, 484));
-    let first = |sheet: &[u8]| read(sheet, 2004).unwrap().table.numbers[8];
-    assert_eq!(first(&sheet(65535, 4 * 65535)), 65535);
-    assert_eq!(first(&sheet(65536, 4 * 65536)), 65536);
+/// The numbers of a sheet that is written back from what is read.
+fn numbers_written_back(sheet: &[u8]) -> Vec<u64> {
+    let reading = read(sheet, 2004).unwrap();
+    assert_eq!(write(2004, &reading.head, &reading.table, sheet.len()).as_deref(), Ok(sheet));
+    reading.table.numbers
+}
 
-    // Under the mark N1 is the upper half of a later count.
-    let mut island = vec![1; 4 * 65535];
-    island.extend_from_slice(&[1, 0, 2, 0]);
-    island.extend_from_slice(&vec![2; 4 * 65538]);
-    let sheet = sheet_with(&[record([2, 0, 0], 65535, 1, 65535, &island, &[])]);
-    let table = read(&sheet, 2004).unwrap().table;
-    assert_eq!(table.numbers[8..], [65535, 0, 65538, 0]);
+/// Document 02, request 2: "under the mark any count in the word is good".
+#[test]
+fn any_count_is_read_under_the_mark() {
+    let metric = vec![1; 4 * 65536];
+    let marked = |word: u64, points: usize| record([2, 0, 0], word as u32, 0, 65535, &metric[..4 * points], &[]);
+    for count in [0, 1, 10, 65534, 65535, 65536] {
+        let sheet = sheet_with(&[marked(count, count as usize)]);
+        assert_eq!(numbers_written_back(&sheet), [0, 0, 0, 2, 255, count, 1, 0, 1, count, 0]);
+        assert_eq!(refusal(&sheet, 1999), too_new(482, 2004));
+    }
+    // The word calls for more points than there are, or for fewer.
+    for (word, points) in [(1, 0), (11, 10), (65535, 65534), (65536, 65535), (MOST, 1)] {
+        assert_eq!(refusal_record(marked(word, points)), refused(10, 484));
+    }
+    for (word, points) in [(0, 1), (9, 10), (65533, 65534), (65534, 65535)] {
+        assert_eq!(refusal_record(marked(word, points)), refused(10, 484 + 4 * word));
+    }
+    // Without the mark 65534 points are those at +30, whatever the word is.
+    let largest = sheet_with(&[record([2, 0, 0], 9, 0, 65534, &metric[..4 * 65534], &[])]);
+    assert_eq!(numbers_written_back(&largest), [0, 0, 0, 2, 255, 9, 1, 0, 0, 65534, 0]);
+}
+
+/// A first part of these points and a later one whose count is N1 and N2.
+fn with_island(points: u16, shore: u64, island: u64) -> Vec<u8> {
+    let [low, high, upper_low, upper_high] = (island as u32).to_le_bytes();
+    let mut metric = vec![1; 4 * shore as usize];
+    metric.extend_from_slice(&[upper_low, upper_high, low, high]);
+    metric.resize(metric.len() + 4 * island as usize, 2);
+    record([2, 0, 0], shore as u32, 1, points, &metric, &[])
+}
+
+#[test]
+fn an_island_behind_a_short_shore_is_read() {
+    for island in ISLANDS {
+        let marked = sheet_with(&[with_island(65535, SHORE, island)]);
+        assert_eq!(numbers_written_back(&marked), [0, 0, 0, 2, 255, SHORE, 2, 0, 1, SHORE, 0, island, 0]);
+        assert_eq!(refusal(&marked, 1999), too_new(482, 2004));
+        // Without the mark N1 must be 0.
+        let unmarked = with_island(SHORE as u16, SHORE, island);
+        if island > 65535 {
+            assert_eq!(refusal_record(unmarked), refused(11, 524));
+        } else {
+            let numbers = numbers_written_back(&sheet_with(&[unmarked]));
+            assert_eq!(numbers, [0, 0, 0, 2, 255, SHORE, 2, 0, 0, SHORE, 0, island, 0]);
+        }
+    }
+    // Under the mark N1 is the upper half of the count.
+    let sheet = sheet_with(&[with_island(65535, 65535, 65538)]);
+    assert_eq!(numbers_written_back(&sheet)[POINTS as usize..], [65535, 0, 65538, 0]);
     let cut = changed(&sheet, &[(484 + 4 * 65535, &[2])]);
     assert_eq!(refusal(&cut, 2004), refused(10, 484 + 4 * 65535 + 4));
+}
+
+/// Faults are mended one after another; each time the next one is refused.
+#[test]
+fn order_about_the_mark() {
+    let faulty = record([2, 0, 1], 9, 1, 65535, &[3, 0, 4, 0, 1, 0, 0, 0], &[9]);
+    let mut sheet = sheet_with(&[record_p(), faulty]);
+    let mut next = |year, due, place, bytes: &[u8]| {
+        assert_eq!(refusal(&sheet, year), due);
+        sheet = changed(&sheet, &[(place, bytes)]);
+    };
+    next(1999, refused(7, 510), 510, &[0]);
+    next(1999, too_new(518, 2004), 518, &[9, 0]);
+    next(1999, refused(10, 520), 518, &[0xFF, 0xFF]);
+    next(2004, refused(10, 520), 512, &[1]);
+    // N1 is 1, which is 65536 points under the mark.
+    next(2004, refused(10, 528), 518, &[1, 0]);
+    next(2004, refused(11, 524), 524, &[0]);
+    assert_eq!(refusal(&sheet, 2004), refused(10, 528));
 }
 
 #[test]
@@ -435,13 +495,13 @@ fn items() {
         let reading = read(&sheet_with_item(item), 2012).unwrap();
         let value = if item[2] == 128 { 8 } else { 4 };
         let length = (item.len() - value) as u64;
-        assert_eq!(reading.table.numbers[13], length);
+        assert_eq!(reading.table.numbers.last(), Some(&length));
         assert_eq!(reading.table.bytes, item[value..]);
         all.extend_from_slice(item);
     }
     let reading = read(&sheet_with_item(&all), 2012).unwrap();
-    assert_eq!(reading.table.numbers[7], 11);
-    assert_eq!(reading.table.numbers.len(), 10 + 4 * 11);
+    assert_eq!(reading.table.numbers[ITEMS as usize], 11);
+    assert_eq!(reading.table.numbers.len(), 11 + 4 * 11);
 }
 
 #[test]
@@ -499,6 +559,7 @@ fn records_by_number() {
         word: 7,
         parts: 1,
         items: 1,
+        mark: 0,
         points: 1,
     };
     assert_eq!(record_at(&sheet, 1999, 0), Ok(expected));
@@ -508,7 +569,11 @@ fn records_by_number() {
     let left_over = changed(&sheet, &[(440, &[0])]);
     assert_eq!(record_at(&left_over, 1999, 9), Err(refused(13, 452)));
 
-    let p = record([2, 0, 0], 0, 0, 1, &POINT_3_4, &[]);
-    let two = sheet_with(&[p.clone(), p]);
-    assert_eq!(record_at(&two, 1999, 1).unwrap().at, 488);
+    let marked = record([2, 0, 0], 1, 0, 65535, &POINT_3_4, &[]);
+    let three = sheet_with(&[record_p(), marked, record_p()]);
+    let answered = |number| record_at(&three, 2004, number).map(|record| (record.at, record.word, record.mark, record.points));
+    assert_eq!(answered(0), Ok((452, 0, 0, 1)));
+    assert_eq!(answered(1), Ok((488, 1, 1, 1)));
+    assert_eq!(answered(2), Ok((524, 0, 0, 1)));
+    assert_eq!(record_at(&three, 1999, 0), Err(too_new(518, 2004)));
 }

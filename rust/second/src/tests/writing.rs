@@ -1,35 +1,55 @@
-//! Writing: document 01's cases, each refusal and its place, and their order.
+//! Writing: the documents' cases, each refusal and its place, and their order.
 
 use super::*;
 use crate::{read, write};
 
 const ROOM: usize = usize::MAX;
 
+/// The refusal of a table, which behind the record of table P is the same and
+/// stands as much further on.
 fn refusal(year: u32, table: &Table) -> Refusal {
-    write(year, &head_e(), table, ROOM).expect_err("a refusal")
+    let refused = |table: &Table| write(year, &head_e(), table, ROOM).expect_err("a refusal");
+    let refusal = refused(table);
+    let mut second = table_p();
+    let place = refusal.place + second.numbers.len() as u64;
+    second.numbers.extend_from_slice(&table.numbers);
+    second.elements.extend_from_slice(&table.elements);
+    second.bytes.extend_from_slice(&table.bytes);
+    assert_eq!(refused(&second), Refusal { place, ..refusal });
+    refusal
+}
+
+/// The table with one number changed.
+fn with(mut table: Table, index: u64, number: u64) -> Table {
+    table.numbers[index as usize] = number;
+    table
 }
 
 /// The refusal of table Q with one number changed, at setting 2017.
-fn refusal_q(index: usize, number: u64) -> Refusal {
-    let mut table = table_q();
-    table.numbers[index] = number;
-    refusal(2017, &table)
+fn refusal_q(index: u64, number: u64) -> Refusal {
+    refusal(2017, &with(table_q(), index, number))
 }
 
-/// A record of parts, each with points and text length, and no items.
-fn table_of(reference: u64, word: u64, parts: &[(u64, u64)], elements: usize) -> Table {
-    let mut numbers = vec![0, 0, 0, reference, 255, word, parts.len() as u64, 0];
+/// A record of parts, each with points and text length, no items and no mark.
+fn table_of(reference: u64, word: u64, parts: &[(u64, u64)], elements: u64) -> Table {
+    let mut numbers = vec![0, 0, 0, reference, 255, word, parts.len() as u64, 0, 0];
     numbers.extend(parts.iter().flat_map(|part| [part.0, part.1]));
-    Table { numbers, elements: vec![1; elements], bytes: vec![] }
+    Table { numbers, elements: vec![1; elements as usize], bytes: vec![] }
 }
 
 /// Table Q with another item.
 fn table_item(type_byte: u64, scale: u64, length: u64, value: &[u8]) -> Table {
     let mut table = table_q();
-    table.numbers[10..].copy_from_slice(&[1, type_byte, scale, length]);
+    table.numbers[ITEM_CODE as usize..].copy_from_slice(&[1, type_byte, scale, length]);
     table.bytes = value.to_vec();
     table
 }
+
+/// Where the numbers of table Q's item stand.
+const ITEM_CODE: u64 = 11;
+const ITEM_TYPE: u64 = 12;
+const ITEM_SCALE: u64 = 13;
+const VALUE_LENGTH: u64 = 14;
 
 #[test]
 fn documents_sheets_are_written() {
@@ -109,20 +129,21 @@ fn numbers_too_large() {
         (3, 1 << 24),
         (4, 1 << 8),
         (5, 1 << 32),
-        (8, 1 << 32),
-        (9, 1 << 8),
-        (10, 1 << 16),
-        (11, 1 << 8),
-        (12, 1 << 8),
-        (13, 1 << 32),
+        (MARK, 2),
+        (POINTS, 1 << 32),
+        (TEXT_LENGTH, 1 << 8),
+        (ITEM_CODE, 1 << 16),
+        (ITEM_TYPE, 1 << 8),
+        (ITEM_SCALE, 1 << 8),
+        (VALUE_LENGTH, 1 << 32),
     ];
     for (index, number) in least {
         for number in [number, number + 2, 1 << 63, u64::MAX] {
-            assert_eq!(refusal_q(index, number), refused(14, index as u64));
+            assert_eq!(refusal_q(index, number), refused(14, index));
         }
     }
     // Parts and items call for numbers that are not there.
-    for index in [6, 7] {
+    for index in [PARTS, ITEMS] {
         for number in [2, 1 << 32, 1 << 62, 1 << 63, u64::MAX] {
             assert_eq!(refusal_q(index, number), refused(14, 0));
         }
@@ -131,46 +152,35 @@ fn numbers_too_large() {
     let parts = vec![(0, 0); 65536];
     assert!(write(2017, &head_e(), &table_of(2, 0, &parts, 0), ROOM).is_ok());
     let parts = vec![(0, 0); 65537];
-    assert_eq!(refusal(2017, &table_of(2, 0, &parts, 0)), refused(14, 6));
+    assert_eq!(refusal(2017, &table_of(2, 0, &parts, 0)), refused(14, PARTS));
 }
 
 #[test]
 fn rows() {
     let q = table_q();
     // A row cut short is refused at its start, before its other numbers.
-    for length in 1..14 {
+    for length in 1..q.numbers.len() {
         let mut table = q.clone();
         table.numbers.truncate(length);
         table.numbers[0] = u64::MAX;
         assert_eq!(refusal(2017, &table), refused(14, 0));
     }
     let mut second = q.clone();
-    second.numbers.extend([u64::MAX; 7]);
-    assert_eq!(refusal(2017, &second), refused(14, 14));
+    second.numbers.extend([u64::MAX; 8]);
+    assert_eq!(refusal(2017, &second), refused(14, 15));
     // The sums of both counts come round to the numbers left, modulo 2^64.
-    let mut round = q.clone();
-    round.numbers[6] = (1 << 63) + 1;
-    assert_eq!(refusal(2017, &round), refused(14, 0));
-    round.numbers[6] = 1;
-    round.numbers[7] = (1 << 62) + 1;
-    assert_eq!(refusal(2017, &round), refused(14, 0));
+    assert_eq!(refusal_q(PARTS, (1 << 63) + 1), refused(14, 0));
+    assert_eq!(refusal_q(ITEMS, (1 << 62) + 1), refused(14, 0));
     // No parts; a flag without items; items without the flag.
-    let mut none = q.clone();
-    none.numbers[6] = 0;
-    assert_eq!(refusal(2017, &none), refused(14, 6));
-    let mut p = table_p();
-    p.numbers[3] = 0x0202;
-    assert_eq!(refusal(2017, &p), refused(14, 7));
-    assert_eq!(refusal_q(3, 2), refused(14, 7));
+    assert_eq!(refusal_q(PARTS, 0), refused(14, PARTS));
+    let flag_only = with(table_p(), REFERENCE, 0x0202);
+    assert_eq!(refusal(2017, &flag_only), refused(14, ITEMS));
+    assert_eq!(refusal_q(REFERENCE, 2), refused(14, ITEMS));
 }
 
 #[test]
 fn reference_number() {
-    let at = |number, year| {
-        let mut table = table_q();
-        table.numbers[3] = number;
-        refusal(year, &table)
-    };
+    let at = |number, year| refusal(year, &with(table_q(), REFERENCE, number));
     assert_eq!(at(0x0206, 2017), refused(7, 3));
     assert_eq!(at(0x0232, 1999), refused(7, 3));
     assert_eq!(at(0x01_0B12, 1999), too_new(3, 2016));
@@ -186,36 +196,118 @@ fn reference_number() {
 }
 
 #[test]
-fn points() {
-    let refusal_of = |year, word, parts: &[(u64, u64)], elements| refusal(year, &table_of(2, word, parts, elements));
+fn points_without_the_mark() {
+    let refusal_of = |word, parts: &[(u64, u64)], elements| refusal(1999, &table_of(2, word, parts, elements));
     // The pool ends early, or is left over.
-    assert_eq!(refusal_of(2017, 0, &[(1, 0)], 1), refused(14, 8));
-    assert_eq!(refusal_of(2017, 0, &[(1, 0)], 3), refused(14, 10));
-    assert_eq!(refusal_of(2017, 0, &[(1, 0), (2, 0)], 5), refused(14, 10));
-    // The first count: size, TOO NEW, COUNT, pool.
-    let first = |year, word, count| refusal_of(year, word, &[(count, 0)], 0);
-    assert_eq!(first(1999, 0, 1 << 32), refused(14, 8));
-    assert_eq!(first(1999, 0, u64::MAX), refused(14, 8));
-    assert_eq!(first(1999, 0, 65535), too_new(8, 2004));
-    assert_eq!(first(1999, 65535, 65535), too_new(8, 2004));
-    assert_eq!(first(2004, 0, 65535), refused(11, 8));
-    assert_eq!(first(2004, 65536, 65535), refused(11, 8));
-    assert_eq!(first(2004, 65535, 65536), refused(11, 8));
-    assert_eq!(first(2004, 65535, 65535), refused(14, 8));
-    assert_eq!(first(2004, u64::from(u32::MAX), u64::from(u32::MAX)), refused(14, 8));
-    assert_eq!(first(1999, 9, 65534), refused(14, 8));
+    assert_eq!(refusal_of(0, &[(1, 0)], 1), refused(14, POINTS));
+    assert_eq!(refusal_of(0, &[(1, 0)], 3), refused(14, 11));
+    assert_eq!(refusal_of(0, &[(1, 0), (2, 0)], 5), refused(14, LATER_POINTS));
+    // The first count: size, COUNT, pool. The word is not looked at.
+    let first = |word, count| refusal_of(word, &[(count, 0)], 0);
+    for word in [0, 65534, 65535, 65536, MOST] {
+        assert_eq!(first(word, u64::MAX), refused(14, POINTS));
+        assert_eq!(first(word, 1 << 32), refused(14, POINTS));
+        assert_eq!(first(word, MOST), refused(11, POINTS));
+        assert_eq!(first(word, 65536), refused(11, POINTS));
+        assert_eq!(first(word, 65535), refused(11, POINTS));
+        assert_eq!(first(word, 65534), refused(14, POINTS));
+    }
     // A later count: size, COUNT, pool.
-    let later = |count| refusal_of(1999, 9, &[(0, 0), (count, 0)], 0);
-    assert_eq!(later(1 << 32), refused(14, 10));
-    assert_eq!(later(u64::MAX), refused(14, 10));
-    assert_eq!(later((1 << 32) - 1), refused(11, 10));
-    assert_eq!(later(65536), refused(11, 10));
-    assert_eq!(later(65535), refused(14, 10));
-    let under_mark = [(65535, 0), (65536, 0)];
-    assert_eq!(refusal_of(2004, 65535, &under_mark, 131_070), refused(14, 10));
-    let table = table_of(2, 65535, &under_mark, 131_070 + 131_072);
-    let sheet = write(2004, &head_e(), &table, ROOM).unwrap();
-    assert_eq!(read(&sheet, 2004).unwrap().table, table);
+    let later = |count| refusal_of(9, &[(0, 0), (count, 0)], 0);
+    assert_eq!(later(u64::MAX), refused(14, LATER_POINTS));
+    assert_eq!(later(1 << 32), refused(14, LATER_POINTS));
+    assert_eq!(later(MOST), refused(11, LATER_POINTS));
+    assert_eq!(later(65536), refused(11, LATER_POINTS));
+    assert_eq!(later(65535), refused(14, LATER_POINTS));
+}
+
+#[test]
+fn points_under_the_mark() {
+    let refusal_of = |word, parts: &[(u64, u64)]| refusal(2004, &with(table_of(2, word, parts, 0), MARK, 1));
+    // The first count: size, COUNT, pool.
+    for count in [0, 1, 10, 65534, 65535, 65536, MOST - 1] {
+        assert_eq!(refusal_of(count, &[(u64::MAX, 0)]), refused(14, POINTS));
+        assert_eq!(refusal_of(count, &[(1 << 32 | count, 0)]), refused(14, POINTS));
+        assert_eq!(refusal_of(count + 1, &[(count, 0)]), refused(11, POINTS));
+        assert_eq!(refusal_of(count, &[(count + 1, 0)]), refused(11, POINTS));
+        assert_eq!(refusal_of(count ^ 1 << 16, &[(count, 0)]), refused(11, POINTS));
+        assert_eq!(refusal_of(count + 1, &[(count + 1, 0)]), refused(14, POINTS));
+    }
+    // A later count: size, pool.
+    let later = |count| refusal_of(0, &[(0, 0), (count, 0)]);
+    assert_eq!(later(u64::MAX), refused(14, LATER_POINTS));
+    assert_eq!(later(1 << 32), refused(14, LATER_POINTS));
+    assert_eq!(later(MOST), refused(14, LATER_POINTS));
+    assert_eq!(later(65536), refused(14, LATER_POINTS));
+    assert_eq!(later(1), refused(14, LATER_POINTS));
+}
+
+#[test]
+fn the_marks_number() {
+    let at = |mark, year| refusal(year, &with(table_p(), MARK, mark));
+    for over in [2, 3, 255, 256, 257, 65535, 65536, 1 << 32, (1 << 32) + 1, 1 << 63, u64::MAX] {
+        assert_eq!(at(over, 1999), refused(14, MARK));
+        assert_eq!(at(over, 2017), refused(14, MARK));
+    }
+    assert_eq!(at(1, 1999), too_new(MARK, 2004));
+    // P's word is 0, and its first count is 1.
+    assert_eq!(at(1, 2004), refused(11, POINTS));
+}
+
+/// Faults are mended one after another; each time the next one is refused.
+#[test]
+fn order_about_the_mark() {
+    let mut table = table_of(0x0202, 9, &[(1 << 32, 1), (65536, 0)], 20);
+    let mut next = |year, due, index, number| {
+        assert_eq!(refusal(year, &table), due);
+        table.numbers[index as usize] = number;
+    };
+    next(1999, refused(14, ITEMS), MARK, 2);
+    next(1999, refused(14, ITEMS), MARK, 1);
+    next(1999, refused(14, ITEMS), REFERENCE, 2);
+    next(1999, too_new(MARK, 2004), MARK, 2);
+    next(1999, refused(14, MARK), MARK, 0);
+    next(1999, refused(14, POINTS), POINTS, 65535);
+    next(1999, refused(11, POINTS), MARK, 1);
+    next(2004, refused(11, POINTS), POINTS, 9);
+    next(2004, refused(14, TEXT_LENGTH), TEXT_LENGTH, 0);
+    next(2004, refused(14, LATER_POINTS), MARK, 0);
+    next(2004, refused(11, LATER_POINTS), LATER_POINTS, 1);
+    assert!(write(1999, &head_e(), &table, ROOM).is_ok());
+}
+
+/// Writes a table that is right, reads it back, and gives the sheet.
+fn written_and_read(table: &Table) -> Vec<u8> {
+    let sheet = write(2004, &head_e(), table, ROOM).unwrap();
+    assert_eq!(&read(&sheet, 2004).unwrap().table, table);
+    sheet
+}
+
+#[test]
+fn any_count_is_written_under_the_mark() {
+    for count in [0, 1, 10, 65534, 65535, 65536] {
+        let sheet = written_and_read(&with(table_of(2, count, &[(count, 0)], 2 * count), MARK, 1));
+        assert_eq!(sheet[476..480], (count as u32).to_le_bytes());
+        assert_eq!(sheet[482..484], [0xFF, 0xFF]);
+    }
+    // The largest count that goes without.
+    let sheet = written_and_read(&table_of(2, 9, &[(65534, 0)], 2 * 65534));
+    assert_eq!(sheet[476..484], [9, 0, 0, 0, 0, 0, 0xFE, 0xFF]);
+}
+
+#[test]
+fn an_island_behind_a_short_shore_is_written() {
+    for island in ISLANDS {
+        let table = table_of(2, SHORE, &[(SHORE, 0), (island, 0)], 2 * (SHORE + island));
+        if island > 65535 {
+            assert_eq!(refusal(2017, &table), refused(11, LATER_POINTS));
+        } else {
+            written_and_read(&table);
+        }
+        let sheet = written_and_read(&with(table, MARK, 1));
+        let [low, high, upper_low, upper_high] = (island as u32).to_le_bytes();
+        assert_eq!(sheet[524..528], [upper_low, upper_high, low, high]);
+    }
 }
 
 #[test]
@@ -240,7 +332,7 @@ fn elements_too_wide() {
             let mut wide = table.clone();
             if let Some(more) = wide.elements[at].checked_add(1) {
                 wide.elements[at] = more;
-                let part = if at < widths.len() { 8 } else { 10 };
+                let part = if at < widths.len() { POINTS } else { LATER_POINTS };
                 assert_eq!(refusal(1999, &wide), refused(14, part));
             }
         }
@@ -254,10 +346,10 @@ fn part_texts() {
         table.bytes = bytes.to_vec();
         write(2017, &head_e(), &table, ROOM)
     };
-    assert_eq!(text(2, 1, b"x"), Err(refused(14, 9)));
-    assert_eq!(text(0x08_0003, 256, &[1; 256]), Err(refused(14, 9)));
-    assert_eq!(text(0x08_0003, 2, b"x"), Err(refused(14, 9)));
-    assert_eq!(text(0x08_0003, 0, b"x"), Err(refused(14, 10)));
+    assert_eq!(text(2, 1, b"x"), Err(refused(14, TEXT_LENGTH)));
+    assert_eq!(text(0x08_0003, 256, &[1; 256]), Err(refused(14, TEXT_LENGTH)));
+    assert_eq!(text(0x08_0003, 2, b"x"), Err(refused(14, TEXT_LENGTH)));
+    assert_eq!(text(0x08_0003, 0, b"x"), Err(refused(14, 11)));
     let sheet = text(0x08_0003, 2, b"x\0").unwrap();
     assert_eq!(sheet[488..], [2, b'x', 0, 0]);
     assert!(text(0x08_0005, 255, &[0; 255]).is_ok());
@@ -266,15 +358,15 @@ fn part_texts() {
 #[test]
 fn items() {
     let written = |table: &Table, year| write(year, &head_e(), table, ROOM);
-    let at = |table: Table, year| written(&table, year).expect_err("a refusal");
+    let at = |table: Table, year| refusal(year, &table);
     // Types.
-    assert_eq!(at(table_item(3, 256, 9, &[]), 2017), refused(12, 11));
-    assert_eq!(at(table_item(128, 256, 9, &[]), 2008), too_new(11, 2012));
+    assert_eq!(at(table_item(3, 256, 9, &[]), 2017), refused(12, ITEM_TYPE));
+    assert_eq!(at(table_item(128, 256, 9, &[]), 2008), too_new(ITEM_TYPE, 2012));
     // Scales.
     for whole in [1, 2, 4] {
-        assert_eq!(at(table_item(whole, 0x80, 9, &[]), 2017), refused(12, 12));
+        assert_eq!(at(table_item(whole, 0x80, 9, &[]), 2017), refused(12, ITEM_SCALE));
     }
-    assert_eq!(at(table_item(128, 0xFE, 9, &[]), 2017), refused(12, 12));
+    assert_eq!(at(table_item(128, 0xFE, 9, &[]), 2017), refused(12, ITEM_SCALE));
     // Value lengths: TABLE, SEMANTIC for type 128, the pool, TEXT.
     let lengths = [
         (0, 3, 4),
@@ -297,12 +389,12 @@ fn items() {
         let sheet = written(&table, 2012).unwrap();
         assert_eq!(read(&sheet, 2012).unwrap().table, table);
         if type_byte != 128 {
-            assert_eq!(at(item(length + 1, &value), 2012), refused(14, 13));
-            assert_eq!(at(item(length - 1, &value), 2012), refused(14, 13));
-            assert_eq!(at(item(u64::MAX, &value), 2012), refused(14, 13));
+            assert_eq!(at(item(length + 1, &value), 2012), refused(14, VALUE_LENGTH));
+            assert_eq!(at(item(length - 1, &value), 2012), refused(14, VALUE_LENGTH));
+            assert_eq!(at(item(u64::MAX, &value), 2012), refused(14, VALUE_LENGTH));
         }
         let early = &value[1..];
-        assert_eq!(at(item(length, early), 2012), refused(14, 13));
+        assert_eq!(at(item(length, early), 2012), refused(14, VALUE_LENGTH));
         let closing = match type_byte {
             0 | 126 => 1,
             127 | 128 => 2,
@@ -311,23 +403,23 @@ fn items() {
         for back in 1..=closing {
             let mut open = value.clone();
             open[length as usize - back] = 1;
-            assert_eq!(at(item(length, &open), 2012), refused(6, 13));
+            assert_eq!(at(item(length, &open), 2012), refused(6, VALUE_LENGTH));
         }
     }
     let long = |length| at(table_item(128, 0xFF, length, &[]), 2017);
-    assert_eq!(long(0), refused(12, 13));
-    assert_eq!(long(1), refused(12, 13));
-    assert_eq!(long(3), refused(12, 13));
-    assert_eq!(long(u64::from(u32::MAX)), refused(12, 13));
-    assert_eq!(long(u64::from(u32::MAX) - 1), refused(14, 13));
-    assert_eq!(long(1 << 32), refused(14, 13));
+    assert_eq!(long(0), refused(12, VALUE_LENGTH));
+    assert_eq!(long(1), refused(12, VALUE_LENGTH));
+    assert_eq!(long(3), refused(12, VALUE_LENGTH));
+    assert_eq!(long(MOST), refused(12, VALUE_LENGTH));
+    assert_eq!(long(MOST - 1), refused(14, VALUE_LENGTH));
+    assert_eq!(long(1 << 32), refused(14, VALUE_LENGTH));
 }
 
 #[test]
 fn pools_left_over() {
     let mut table = table_q();
     table.bytes.push(0);
-    assert_eq!(refusal(2017, &table), refused(14, 14));
+    assert_eq!(refusal(2017, &table), refused(14, 15));
     let only_pool = Table { elements: vec![1], ..Table::default() };
     assert_eq!(refusal(2017, &only_pool), refused(14, 0));
 }
@@ -342,5 +434,5 @@ fn room() {
     let mut table = table_q();
     table.bytes.push(0);
     let refusal = write(2017, &head_e(), &table, 0);
-    assert_eq!(refusal, Err(refused(14, 14)));
+    assert_eq!(refusal, Err(refused(14, 15)));
 }

@@ -1,9 +1,10 @@
-//! Drawn sheets with every kind of element: of each shape of points one record that has all edges, and as many elements of any bits.
+//! Drawn sheets with every kind of element: of each shape of points one record that has all edges, and as many elements of any bits. Some records
+//! have the mark.
 use held_against_second::coordinates::{shapes, EDGES};
 use held_against_second::heads::head;
 use held_against_second::numbers::Numbers;
 use held_against_second::sheets::written;
-use held_against_second::tables::{item, record, reference, widths};
+use held_against_second::tables::{item, marked_record, record, reference, widths};
 use second::Table;
 use sxf::Reference;
 
@@ -22,7 +23,11 @@ pub fn sheet(number: u64) -> Vec<u8> {
         let word = numbers.of_bits(32);
         let before = table.elements.len();
         let points = [EDGES.len() as u64, numbers.below(9)];
-        record(&mut table, &mut numbers, reference, word, &points);
+        if numbers.chance(1, 4) {
+            marked_record(&mut table, &mut numbers, reference, &points);
+        } else {
+            record(&mut table, &mut numbers, reference, word, &points);
+        }
         put_edges(&mut table.elements[before..], reference, &mut numbers);
         (0..items).for_each(|_| item(&mut table, &mut numbers, YEAR));
     }

@@ -265,7 +265,7 @@ fn each_is_told(folder: &str, ends: i32, cases: &[(&str, &str, &str)]) {
 
 #[test]
 fn a_refused_table_is_told_with_its_line() {
-    // A first part of so many points has their count in the word.
+    // A first part of so many points needs the mark, and under it the word is their count.
     let many = format!("[{}]", vec!["[3,4]"; 65535].join(","));
     let cases = [
         // This is no reference number, and does not say how elements are stored, so they are not judged by it.
@@ -281,10 +281,15 @@ fn a_refused_table_is_told_with_its_line() {
         ),
         ("\"reference\":514", "\"reference\":2", "(line 2, record 0, items)"),
         ("\"f904\"", "\"f9\"", "(line 2, record 0, item 0, value length)"),
-        ("[[3,4]]", &many, "(line 2, record 0, part 0, points)"),
+        (
+            "[[3,4]]",
+            &many,
+            "refusal 11 COUNT at 9 (0x9): a count of points needs the mark 65535, which the record does not have, or under the mark \
+             the word at +24 is not the first part's points (line 2, record 0, part 0, points)",
+        ),
         ("[[3,4]]", "[[3,4]],\"label\":\"A\"", "(line 2, record 0, part 0, text length)"),
         ("[[3,4]]", "[[3,4]],\"label_bytes\":\"41\"", "(line 2, record 0, part 0, text length)"),
-        ("\"type\":2", "\"type\":3", "refusal 12 SEMANTIC at 11 (0xb)"),
+        ("\"type\":2", "\"type\":3", "refusal 12 SEMANTIC at 12 (0xc)"),
         ("\"designation\":\"A\"", "\"designation\":\"A\\u0000\"", "refusal 6 TEXT at 28 (0x1c)"),
         ("\"designation\":\"A\"", "\"designation_bytes\":\"4100\"", "refusal 6 TEXT at 28 (0x1c)"),
     ];
@@ -300,6 +305,17 @@ fn bad_json_is_told_with_its_line() {
         ("\"word\":0,", "\"word\":0.5,", "line 2: column 94: 0.5, where an integer of at most 64 bits, from 0 on, should be"),
         ("\"word\":0,", "\"word\":\"0\",", "line 2: column 94: \"0\", where an integer of at most 64 bits, from 0 on, should be"),
         ("\"word\":0,", "\"word\":18446744073709551616,", "line 2: column "),
+        (
+            "\"word\":0,",
+            "\"word\":0,\"mark\":null,",
+            "line 2: column 104: null, where an integer of at most 64 bits, from 0 on, should be",
+        ),
+        (
+            "\"word\":0,",
+            "\"word\":0,\"mark\":true,",
+            "line 2: column 104: true, where an integer of at most 64 bits, from 0 on, should be",
+        ),
+        ("\"word\":0,", "\"word\":0,\"mark\":0,\"mark\":0,", "duplicate field `mark`"),
         ("\"f904\"", "\"f90\"", "hexadecimal digits, two a byte"),
         ("[3,4]", "[3,4,5]", "line 2: part 0: points of 3 numbers, where the record's have 2"),
         ("[3,4]", "[3,65536]", "line 2: part 0: point 0: 65536 is none of the integers of 2 bytes, 0 to 65535"),

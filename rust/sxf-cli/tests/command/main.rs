@@ -4,6 +4,7 @@ mod drawn;
 mod every;
 mod files;
 mod lines;
+mod mark;
 mod pages;
 mod run;
 mod texts;

@@ -4,7 +4,7 @@ use std::io::Write;
 use std::path::{Path, PathBuf};
 use std::process::{Command, Output, Stdio};
 
-pub const ACCEPTED: [&str; 14] = [
+pub const ACCEPTED: [&str; 15] = [
     "E",
     "P",
     "Q",
@@ -14,6 +14,7 @@ pub const ACCEPTED: [&str; 14] = [
     "floating",
     "items",
     "long",
+    "mark-small",
     "dated",
     "cyrillic-dos",
     "cyrillic-windows",
@@ -21,7 +22,7 @@ pub const ACCEPTED: [&str; 14] = [
     "no-character",
 ];
 pub const REFUSED: [&str; 8] =
-    ["sum-wrong", "too-short", "not-sxf", "dirty-tail", "closing", "graphics", "left-over", "mark-small"];
+    ["sum-wrong", "too-short", "not-sxf", "dirty-tail", "closing", "graphics", "left-over", "n1-not-zero"];
 
 /// The top of the repository.
 pub fn top() -> PathBuf {

@@ -228,7 +228,7 @@ fn a_text_that_is_too_long_is_told() {
         &folder,
         1,
         &label(256),
-        "refusal 14 TABLE at 9 (0x9): the record table is not well formed here (line 2, record 0, part 0, text length)",
+        "refusal 14 TABLE at 10 (0xa): the record table is not well formed here (line 2, record 0, part 0, text length)",
     );
     for lines in
         [label(255), changed_in("cyrillic-dos", "\"Ёлкино, колодец № 5 — у реки\"", &format!("\"{}\"", "ы".repeat(70_000)))]

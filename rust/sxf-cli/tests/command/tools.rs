@@ -1,7 +1,7 @@
 //! `sxf table F | TOOL | sxf write` gives F's bytes for every tool that keeps doubles. `jq` and `python3` are Debian's, which .ci/packages installs,
 //! whatever else of these names there is.
 use crate::run::{on, out, sample, Folder, ACCEPTED};
-use crate::{drawn, every};
+use crate::{drawn, every, mark};
 use std::collections::BTreeSet;
 use std::fs;
 use std::num::FpCategory;
@@ -48,6 +48,14 @@ fn samples_come_back_through_tools() {
     }
 }
 
+/// A shore of ten points with an island of 70,000.
+#[test]
+fn a_long_island_comes_back_through_tools() {
+    let folder = Folder::new("island-through-tools");
+    fs::write(folder.file("island.sxf"), mark::marked(&[10, 70_000])).expect("a file");
+    comes_back(&folder, &folder.file("island.sxf"));
+}
+
 /// All of them go through the tools as characters.
 #[test]
 fn every_character_comes_back_through_tools() {
@@ -72,8 +80,8 @@ fn drawn_sheets_come_back_through_tools() {
         comes_back(&folder, &folder.file("drawn.sxf"));
     }
     assert_eq!(met, every_class(), "what was tried is every kind of element");
-    for field in ["\"label\":", "\"label_bytes\":", "\"text\":", "\"value\":"] {
-        assert!(tables.contains(field), "what was tried has texts as characters and as bytes, {field}");
+    for field in ["\"label\":", "\"label_bytes\":", "\"text\":", "\"value\":", "\"mark\":1,"] {
+        assert!(tables.contains(field), "what was tried has texts as characters and as bytes, and the mark, {field}");
     }
 }
 

@@ -145,6 +145,7 @@ impl Judge {
                 word: record.word,
                 parts: record.parts,
                 items: record.items,
+                mark: record.mark,
                 points: record.points,
                 ..archive::Record::default()
             },

@@ -9,10 +9,11 @@ use Rattle.reading.proofs.records.record_by.Tie as tie
 returns : tie.Need-returns
 unfolding headerOf
 returns c =
-    let after-reference-number = c .before .before .before in
+    let after-items-of = c .before .before in
+    let after-reference-number = after-items-of .before .before in
     let header = after-reference-number .before .before in
     let start = header .before .before in
-    rw (after-reference-number .reference-number .ensures, c .before .items-of .ensures, c .first-count .ensures)
+    rw (after-reference-number .reference-number .ensures, after-items-of .items-of .ensures, c .before .mark-of .ensures, c .first-count .ensures)
     (ap (λ h. recordBy (start .args .place) (start .args .count) h) (header .header-at .ensures))
 
 pub record-by-spec : {M : Type 1} → statement M
@@ -24,6 +25,7 @@ record-by-spec =
     (λ c κs. search needs)
     (λ c. search needs)
     (λ c. search needs)
+    (λ c κs. search needs)
     (λ c κs. search needs)
     (λ c κs. search needs)
     returns)

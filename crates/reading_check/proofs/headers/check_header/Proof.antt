@@ -1,5 +1,4 @@
--- Each link hands on the step so far (`_▸_`): lengths, reference bytes and counts join to the list `headerChecks`.
-use native.Mathlib.Omega.{arith}
+-- Each link hands on the step so far (`_▸_`): lengths, reference bytes and the mark's year join to the list `headerChecks`.
 use Rattle.fields.proofs.Laws.Chain.{_▸_}
 use Rattle.fields.specs.Headers.{headerOf}
 use Rattle.layout.specs.Reading.Records.{lengthChecks, countChecks}
@@ -7,22 +6,17 @@ use borrow.Author.Needs.{needs}
 use Rattle.reading_check.proofs.headers.check_header.Statement.{statement}
 use Rattle.reading_check.proofs.headers.check_header.Tie as tie
 
-demand-requires-5 : tie.Need-demand-requires-5
-demand-requires-5 c κs =
-    omega (arith, c .before .before .before .before .before .before .before .before .before .before .before .before .before .pre)
-
 returns : tie.Need-returns
 unfolding headerOf lengthChecks countChecks
 returns c =
-    let after-feature = c .before .before in
-    let after-reference-checks = after-feature .before .before in
+    let after-reference-checks = c .before .before in
     let after-beside = after-reference-checks .before .before .before in
     let after-demand2 = after-beside .before .before .before in
     let after-demand = after-demand2 .before .before in
     let start = after-demand .before .before in
     after-demand .demand .ensures _ ▸ after-demand2 .demand2 .ensures _ ▸ after-beside .before .demand3 .ensures _ ▸
     (rw (after-beside .beside .ensures) at (after-reference-checks .before .demand4 .ensures (start .args .year))) ▸
-    after-reference-checks .reference-checks .ensures ▸ after-feature .feature .ensures ▸ c .demand5 .ensures _
+    after-reference-checks .reference-checks .ensures ▸ c .feature .ensures
 
 pub check-header-spec : {M : Type 1} → statement M
 check-header-spec =
@@ -36,5 +30,4 @@ check-header-spec =
     (λ c κs. search needs)
     (λ c κs. search needs)
     (λ c κs. search needs)
-    demand-requires-5
     returns)

@@ -1,4 +1,4 @@
--- The eight stores stand next to each other, so they are one write of eight numbers; a store keeps the length that the next one needs.
+-- The stores stand next to each other, so they are one write of a row's numbers; a store keeps the length that the next one needs.
 use native.Mathlib.Omega.{arith}
 use native.Mathlib.Numerals.{unary-clauses}
 use lib.ListN.{length-set}
@@ -30,12 +30,15 @@ slice-write-out-7 c = simp length-set (omega arith)
 slice-write-out-8 : tie.Need-slice-write-out-8
 slice-write-out-8 c = simp length-set (omega arith)
 
+slice-write-out-9 : tie.Need-slice-write-out-9
+slice-write-out-9 c = simp length-set (omega arith)
+
 same-length : tie.Need-same-length
 same-length c = simp length-set
 
 returns : tie.Need-returns
 unfolding headerOf rowOf
-returns c = simp (unary-clauses, c .before .before .before .reference-number .ensures) refl
+returns c = simp (unary-clauses, c .before .before .before .before .reference-number .ensures, c .mark-of .ensures) refl
 
 pub put-record-spec : {M : Type 1} → statement M
 put-record-spec =
@@ -73,5 +76,10 @@ put-record-spec =
     (λ c. search needs)
     (λ c. search needs)
     slice-write-out-8
+    (λ c κs. search needs)
+    (λ c. search needs)
+    (λ c. search needs)
+    (λ c. search needs)
+    slice-write-out-9
     same-length
     returns)

@@ -1,21 +1,15 @@
--- There are two answers, eleven numbers or the refusal, and in each the definition computes; the points' width has to be said (`wider`).
+-- There are two answers, twelve numbers or the refusal, and in each the definition computes; the widths of the last two have to be said.
 use native.Mathlib.Omega.{arith}
-use Prim.Native.Nat.{ℕ}
-use mir.Syntax.{w32, w64}
-use mir.Val.{Fits}
 use mathlib.Core.Path.{sym, ap}
 use Rattle.layout.specs.Answers.Structs.{recordRow}
 use borrow.Author.Needs.{needs}
 use Rattle.sxf.proofs.records.record_row.Statement.{statement}
 use Rattle.sxf.proofs.records.record_row.Tie as tie
 
-wider : {n : ℕ} → Fits w32 n → Fits w64 n
-wider f = record { fits = omega (arith, f .fits) }
-
 returns : tie.Need-returns
 unfolding recordRow
 returns c =
-    sym (ap recordRow (c .before .before .before .before .before .before .before .before .before .f .given .1))
+    sym (ap recordRow (c .before .before .before .before .before .before .before .before .before .before .f .given .1))
 
 returns-2 : tie.Need-returns-2
 unfolding recordRow
@@ -34,7 +28,8 @@ record-row-spec =
     (λ c. search needs)
     (λ c. search needs)
     (λ c. search needs)
-    (λ c. wider (c .struct-known8 .given .1 .1 .1 .1 .1 .1 .1 .1 .1 .1 .0))
+    (λ c. record { fits = omega (arith, c .struct-known8 .given .1 .1 .1 .1 .1 .1 .1 .1 .1 .1 .0 .fits) })
+    (λ c. record { fits = omega (arith, c .struct-known9 .given .1 .1 .1 .1 .1 .1 .1 .1 .1 .1 .1 .0 .fits) })
     (λ c. search needs)
     (λ c. search needs)
     (λ c. search needs)

@@ -1,5 +1,9 @@
--- Range, year of the mark, and equality with the word are chained (`_▸_`) to the definition's rules of a first part.
-use Rattle.fields.proofs.Laws.Chain.{_▸_}
+-- Range and agreement with mark and word are chained (`_▸_`); the second's test is the definition's by what `good_first` answers.
+use mathlib.Core.List.{[], _∷_}
+use mathlib.Core.Path.{ap}
+use Rattle.fields.proofs.Laws.Chain.{_▸_, as-checks}
+use Rattle.layout.specs.Refusals.{COUNT}
+use Rattle.layout.specs.Walk.{must}
 use Rattle.layout.specs.Writing.Parts.{firstRules}
 use borrow.Author.Needs.{needs}
 use Rattle.writing_check.proofs.parts.first_rules.Statement.{statement}
@@ -8,7 +12,7 @@ use Rattle.writing_check.proofs.parts.first_rules.Tie as tie
 returns : tie.Need-returns
 unfolding firstRules
 returns c =
-    c .before .before .demand .ensures _ ▸ c .before .feature .ensures ▸ c .demand2 .ensures _
+    λ y. c .before .demand .ensures y ▸ as-checks (ap (λ b. must b COUNT 0 ∷ []) (c .before .before .good-first .ensures)) (c .demand2 .ensures y)
 
 pub first-rules-spec : {M : Type 1} → statement M
 first-rules-spec = tie.close (tie.spec (λ c κs. search needs) (λ c κs. search needs) (λ c κs. search needs) returns)

@@ -22,7 +22,7 @@ take-pools-requires c κs =
       h .byte,
       omega arith,
       h .length,
-      first-small _ _ (step-holds _ _ _ (after-first-rules .first-rules .result) (after-first-rules .first-rules .ensures) (c .enum-told .given .1)),
+      first-small _ _ _ (step-holds 0 _ _ (after-first-rules .first-rules .result) (after-first-rules .first-rules .ensures 0) (c .enum-told .given .1)),
       omega arith,
     )
 
@@ -30,17 +30,17 @@ returns : tie.Need-returns
 returns c =
     let after-first-rules = c .before .before .before in
     let start = to-start after-first-rules in
-    first-on (start .args .year) (now (start .args .table)) (now (start .args .elements)) (now (start .args .bytes)) (start .args .p)
-    (referenceOf (start .args .reference)) (firstRules (start .args .word)) (after-first-rules .first-rules .result) (after-first-rules .first-rules .ensures)
-    (c .before .enum-told .given .1) _ (c .take-pools .ensures (start .args .year) (now (start .args .table)))
+    λ y. first-on y (now (start .args .table)) (now (start .args .elements)) (now (start .args .bytes)) (start .args .p)
+    (referenceOf (start .args .reference)) (firstRules (start .args .mark) (start .args .word)) (after-first-rules .first-rules .result)
+    (after-first-rules .first-rules .ensures y) (c .before .enum-told .given .1) _ (c .take-pools .ensures y (now (start .args .table)))
 
 returns-2 : tie.Need-returns-2
 returns-2 c =
     let after-first-rules = c .before .before .before in
     let start = to-start after-first-rules in
-    part-stop _ (now (start .args .table)) (now (start .args .elements)) (now (start .args .bytes)) (start .args .p)
-    (referenceOf (start .args .reference)) (firstRules (start .args .word)) (partBytes (referenceOf (start .args .reference)))
-    (after-first-rules .first-rules .result) (after-first-rules .first-rules .ensures) _ (c .before .r .given .1)
+    λ y. part-stop y (now (start .args .table)) (now (start .args .elements)) (now (start .args .bytes)) (start .args .p)
+    (referenceOf (start .args .reference)) (firstRules (start .args .mark) (start .args .word)) (partBytes (referenceOf (start .args .reference)))
+    (after-first-rules .first-rules .result) (after-first-rules .first-rules .ensures y) _ (c .before .r .given .1)
 
 pub take-first-spec : {M : Type 1} → statement M
 take-first-spec =

@@ -1,4 +1,4 @@
--- Each of the eight numbers read at a place of the table is the same number of the table from there on (`getD-drop`).
+-- Each of the numbers read at a place of the table is the same number of the table from there on (`getD-drop`).
 use lib.Seq.{getD-drop}
 use native.Mathlib.Nat.{add-zero}
 use borrow.Author.Needs.{needs}
@@ -12,6 +12,9 @@ pub read-row-spec : {M : Type 1} → statement M
 read-row-spec =
     tie.close
     (tie.spec
+    (λ c. search needs)
+    (λ c. search needs)
+    (λ c. search needs)
     (λ c. search needs)
     (λ c. search needs)
     (λ c. search needs)

@@ -11,7 +11,7 @@ returns : tie.Need-returns
 returns c =
     let after-name-rules = c .before .before in
     as-checks (ap (λ b. must b 14 0 ∷ []) (after-name-rules .before .before .room .ensures)) (after-name-rules .before .demand .ensures _) ▸
-    after-name-rules .name-rules .ensures _ ▸ c .before .reference-rules .ensures ▸ c .count-rules .ensures _
+    after-name-rules .name-rules .ensures _ ▸ c .before .reference-rules .ensures ▸ c .count-rules .ensures
 
 pub row-rules-spec : {M : Type 1} → statement M
 row-rules-spec =

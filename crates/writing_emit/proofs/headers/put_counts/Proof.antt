@@ -1,4 +1,4 @@
--- `RowFits` lets the parts less one go into two bytes; that and the points or mark, put side by side, are the definition's (`counts-wrote`).
+-- `RowFits` lets the parts less one, and the points or the mark, go into two bytes each; they, put side by side, are the definition's (`counts-wrote`).
 use Rattle.writing_emit.proofs.Laws.Headers.{counts-fit, counts-wrote}
 use native.Mathlib.Omega.{arith}
 use borrow.Author.Needs.{needs}
@@ -20,10 +20,15 @@ cast-put-u16 c =
     let a = counts-fit (start .args .table .now) (start .args .at) (start .pre .1) in
     omega (arith, a)
 
+points-of-requires : tie.Need-points-of-requires
+points-of-requires c κs =
+    let start = to-start (c .before .before .before .before .before .before) in
+    counts-fit (start .args .table .now) (start .args .at) (start .pre .1) .2
+
 returns : tie.Need-returns
 returns c =
     let after-put-u162 = c .before .before in
-    let after-put-u16 = after-put-u162 .before .before .before .before .before .before in
+    let after-put-u16 = after-put-u162 .before .before .before .before .before .before .before in
     let start = to-start (after-put-u16 .before) in
     counts-wrote (start .args .table .now) (start .args .at) _ _ _ _ _ (after-put-u162 .before .points-of .ensures) (after-put-u16 .put-u16 .ensures)
     (after-put-u162 .put-u162 .ensures)
@@ -42,7 +47,10 @@ put-counts-spec =
     (λ c. search needs)
     (λ c. search needs)
     (λ c. search needs)
-    (λ c κs. search needs)
+    (λ c. search needs)
+    (λ c. search needs)
+    (λ c. search needs)
+    points-of-requires
     (λ c κs. search needs)
     (λ c. search needs)
     returns)
