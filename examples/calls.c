@@ -46,9 +46,6 @@ enum {
     LENGTH = SXF_RECORDS_AT + TOTAL
 };
 
-/* The indices of its row's reference, word and mark. */
-enum { REFERENCE = 3, WORD = 5, MARK = 8 };
-
 static uint8_t sheet[LENGTH], rest[304];
 static const uint8_t carried[4] = { 3, 0, 0, 0 };
 
@@ -107,9 +104,9 @@ static void records(void)
     SAME(far, SXF_ASK, 0, 0, 0, 0, 0, 0, 0, 0, 0, 0, 0, 0, 0, 0);
     SAME(last, SXF_ASK, 0, 0, 0, 0, 0, 0, 0, 0, 0, 0, 0, 0, 0, 0);
     memcpy(multi, table, sizeof multi);
-    multi[REFERENCE] |= 16;
+    multi[SXF_ROW_REFERENCE] |= 16;
     sxf_written early = written(2015, multi, LENGTH), made = written(2016, multi, LENGTH);
-    SAME(early, SXF_TOO_NEW, REFERENCE, 2016, 0);
+    SAME(early, SXF_TOO_NEW, SXF_ROW_REFERENCE, 2016, 0);
     SAME(made, 0, 0, 0, LENGTH);
     sxf_record new_bit = sxf_record_at(sheet, LENGTH, 2015, UINT64_MAX);
     SAME(new_bit, SXF_TOO_NEW, 472, 2016, 0, 0, 0, 0, 0, 0, 0, 0, 0, 0, 0, 0);
@@ -121,12 +118,12 @@ static void marks(void)
     uint64_t marked[NUMBERS], t[NUMBERS], e[ELEMENTS];
     uint8_t b[BYTES];
     memcpy(marked, table, sizeof marked);
-    marked[MARK] = 1;
+    marked[SXF_ROW_MARK] = 1;
     sxf_written other_word = written(2017, marked, LENGTH);
     SAME(other_word, SXF_COUNT, SXF_ROW_WIDTH, 0, 0);
-    marked[WORD] = 4;
+    marked[SXF_ROW_WORD] = 4;
     sxf_written early = written(1999, marked, LENGTH), made = written(2004, marked, LENGTH);
-    SAME(early, SXF_TOO_NEW, MARK, 2004, 0);
+    SAME(early, SXF_TOO_NEW, SXF_ROW_MARK, 2004, 0);
     SAME(made, 0, 0, 0, LENGTH);
     sxf_record first = sxf_record_at(sheet, LENGTH, 2004, 0), too_new = sxf_record_at(sheet, LENGTH, 1999, 0);
     SAME(first, 0, 0, 0, SXF_RECORDS_AT, TOTAL, 9, 10, 11, 0x0202, 0x24, 4, 3, 2, 1, 4);
@@ -134,9 +131,9 @@ static void marks(void)
     sxf_checked unfolded = sxf_unfold(sheet, LENGTH, 2004, t, NUMBERS, e, ELEMENTS, b, BYTES);
     SAME(unfolded, 0, 0, 0, sum_of(sheet, LENGTH), 1, NUMBERS, ELEMENTS, BYTES);
     same("marked", t, marked, NUMBERS);
-    marked[MARK] = 2;
+    marked[SXF_ROW_MARK] = 2;
     sxf_written no_mark = written(2017, marked, LENGTH);
-    SAME(no_mark, SXF_TABLE, MARK, 0, 0);
+    SAME(no_mark, SXF_TABLE, SXF_ROW_MARK, 0, 0);
 }
 
 static void heads(void)
@@ -265,6 +262,8 @@ int main(void)
     rest[0] = 3;
     for (size_t i = 0; i < 8; i++)
         rest[104 - 96 + 8 * i] = (uint8_t)(i + 1);
+    uint64_t version = sxf_version();
+    SAME(version, SXF_VERSION);
     sheets();
     records();
     marks();

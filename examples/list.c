@@ -19,9 +19,6 @@ enum { LISTED = 0, REFUSED = 1, FAILED = 2 };
 
 static const uint32_t YEAR = 2017;
 
-/* The numbers of a record's row that are looked at here, by their index. */
-enum { CODE = 0, IN_GROUP = 1, GROUP = 2, REFERENCE = 3, PARTS = 6, ITEMS = 7, MARK = 8 };
-
 /* A sheet's bytes, and its record table unfolded. */
 typedef struct {
     uint8_t *sheet;
@@ -116,9 +113,9 @@ static int print_unit(const char *path, const opened *o)
 /* item has code, type, scale byte and the length of the value. A text is shown by its length, since its coding is the sheet's affair. */
 static void print_item(const uint64_t item[SXF_ITEM_WIDTH], const uint8_t *value)
 {
-    uint8_t kind = (uint8_t)item[1], scale = (uint8_t)item[2];
-    printf("  item %" PRIu64 " type %u: ", item[0], kind);
-    sxf_value v = sxf_value_of(kind, scale, number_of(value, item[3] < 8 ? item[3] : 8));
+    uint8_t kind = (uint8_t)item[SXF_ITEM_TYPE], scale = (uint8_t)item[SXF_ITEM_SCALE];
+    printf("  item %" PRIu64 " type %u: ", item[SXF_ITEM_CODE], kind);
+    sxf_value v = sxf_value_of(kind, scale, number_of(value, item[SXF_ITEM_LENGTH] < 8 ? item[SXF_ITEM_LENGTH] : 8));
     switch (v.kind) {
     case SXF_DECIMAL:
         printf("%" PRId64 "e%" PRId64 "\n", v.whole, v.power);
@@ -130,7 +127,7 @@ static void print_item(const uint64_t item[SXF_ITEM_WIDTH], const uint8_t *value
         printf("NaN\n");
         break;
     default:
-        printf("%" PRIu64 " bytes\n", item[3]);
+        printf("%" PRIu64 " bytes\n", item[SXF_ITEM_LENGTH]);
     }
 }
 
@@ -141,17 +138,17 @@ static void print_records(const opened *o)
     const uint64_t *t = o->table;
     const uint8_t *b = o->bytes, *start = o->sheet + SXF_RECORDS_AT;
     for (uint64_t i = 0; i < o->sizes.records; i++) {
-        const uint64_t *parts = t + SXF_ROW_WIDTH, *items = parts + SXF_PART_WIDTH * t[PARTS], *next = items + SXF_ITEM_WIDTH * t[ITEMS];
+        const uint64_t *parts = t + SXF_ROW_WIDTH, *items = parts + SXF_PART_WIDTH * t[SXF_ROW_PARTS], *next = items + SXF_ITEM_WIDTH * t[SXF_ROW_ITEMS];
         uint64_t total = number_of(start + 4, 4);
         printf("%" PRIu64 " %td %" PRIu64 " %" PRIu64 " %" PRIu64 " %" PRIu64 " %" PRIu64 " %" PRIu64 " %" PRIu64 "\n", i, start - o->sheet, total,
-               t[CODE], t[IN_GROUP], t[GROUP], t[REFERENCE] % 16, parts[0], t[ITEMS]);
-        if (t[MARK] == 1)
+               t[SXF_ROW_CODE], t[SXF_ROW_IN_GROUP], t[SXF_ROW_GROUP], t[SXF_ROW_REFERENCE] % 16, parts[SXF_PART_POINTS], t[SXF_ROW_ITEMS]);
+        if (t[SXF_ROW_MARK] == 1)
             printf("  mark 65535\n");
         for (const uint64_t *part = parts; part < items; part += SXF_PART_WIDTH)
-            b += part[1];
+            b += part[SXF_PART_TEXT_LENGTH];
         for (const uint64_t *item = items; item < next; item += SXF_ITEM_WIDTH) {
             print_item(item, b);
-            b += item[3];
+            b += item[SXF_ITEM_LENGTH];
         }
         start += total;
         t = next;
@@ -199,6 +196,8 @@ int main(int argc, char **argv)
         fprintf(stderr, "usage: list FILE COPY\n");
         return FAILED;
     }
+    if (sxf_version() != SXF_VERSION)
+        return failed("libsxf.a", "is of another version than sxf.h");
     opened o = { 0 };
     int status = read_file(argv[1], &o);
     if (status == LISTED)

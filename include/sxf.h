@@ -27,9 +27,20 @@
 #include <stdint.h>
 #include <string.h>
 
-/* The version of this header and of the archive that goes with it. It is raised where a program has to be changed or built again, and
-   docs/CHANGES.md says how. 2: a record's row has nine numbers, and sxf_record has the field mark. (Headers of rows of eight numbers have
-   no version.) */
+/*
+ * The version of this header, and of the archive that goes with it. It is raised where a program has to be changed or built again, and
+ * docs/CHANGES.md says how. Neither the compiler nor the linker tells a program of one version from an archive of another: rows of another
+ * width would be misread, and an answer by value may be longer than the program thinks. So say what the program was written for, and ask the
+ * archive once:
+ *
+ *     #if SXF_VERSION != 2
+ *     #error "written for version 2 of sxf.h"
+ *     #endif
+ *     if (sxf_version() != SXF_VERSION) ..
+ *
+ * 2: a record's row has nine numbers, and sxf_record the field mark. Headers of rows of eight numbers have no version, and their archives
+ * no sxf_version.
+ */
 #define SXF_VERSION 2
 
 #ifdef __cplusplus
@@ -86,10 +97,28 @@ typedef struct {
 /* Checks a sheet. */
 sxf_checked sxf_check(const uint8_t *sheet, size_t sheet_len, uint32_t year);
 
-/* How many numbers of the table a record has before those of its parts, and how many a part and an item have. */
+/* The version that the archive has: SXF_VERSION of its own header. */
+uint32_t sxf_version(void);
+
+/* The record table: which number of a record's row, of a part and of an item stands where, and how many there are. */
 enum {
+    SXF_ROW_CODE = 0,
+    SXF_ROW_IN_GROUP = 1,
+    SXF_ROW_GROUP = 2,
+    SXF_ROW_REFERENCE = 3,
+    SXF_ROW_GENERALISATION = 4,
+    SXF_ROW_WORD = 5,
+    SXF_ROW_PARTS = 6,
+    SXF_ROW_ITEMS = 7,
+    SXF_ROW_MARK = 8,
     SXF_ROW_WIDTH = 9,
+    SXF_PART_POINTS = 0,
+    SXF_PART_TEXT_LENGTH = 1,
     SXF_PART_WIDTH = 2,
+    SXF_ITEM_CODE = 0,
+    SXF_ITEM_TYPE = 1,
+    SXF_ITEM_SCALE = 2,
+    SXF_ITEM_LENGTH = 3,
     SXF_ITEM_WIDTH = 4
 };
 
@@ -214,9 +243,9 @@ typedef struct {
 /*
  * Writes a sheet from its head and its record table, as sxf_head_of and sxf_unfold answer them. Texts are without a zero: the date is
  * at most 11 bytes, the others 31. rest has the 304 bytes from 96 on, carried the four from 444 on. The sum, the counts and all lengths
- * are computed. A record needs mark 1 where its first part has 65535 points or more, or a later one more than 65535; any record may have it,
- * and then its word is its first part's points. What goes against this is SXF_COUNT at a part's points. SXF_LIMIT bytes of out are always
- * enough.
+ * are computed. A record needs mark 1 where its first part has 65535 points or more, or a later one more than 65535; from 2004 on any record
+ * may have it, and then its word is its first part's points. Else: SXF_TABLE for a mark over 1 and SXF_TOO_NEW for one before 2004, at the
+ * mark's index; SXF_COUNT at a part's points. SXF_LIMIT bytes of out are always enough.
  */
 sxf_written sxf_write(uint32_t year,
                       const uint8_t *date, size_t date_len,

@@ -1,4 +1,4 @@
-// Numbers of a record that more than one field of its header says. (01, Record)
+// Numbers of a record's row that its header does not have as they stand. (01, Record; 02, request 2)
 ghost use mathlib.Core.Path.{_≡_};
 ghost use Rattle.layout.specs.Shared.Mark.{firstCount, markOf};
 ghost use Rattle.layout.specs.Shared.Row.{referenceNumber, referenceOf};

@@ -9,7 +9,7 @@ use Rattle.layout.specs.Layout.Encode.{encodeHead, encodeWith, sheetSum,
 use Rattle.layout.specs.Layout.Uses.{itemYears, recordYears, years}
 use Rattle.layout.specs.Reading.Items.{itemChecks, itemWalk}
 use Rattle.layout.specs.Reading.Parts.{textWalk, partWalk, subobjectWalk, metricWalk}
-use Rattle.layout.specs.Reading.Records.{lengthChecks, countChecks, headerWalk, bodyWalk, recordWith, recordWalk}
+use Rattle.layout.specs.Reading.Records.{lengthChecks, markChecks, headerWalk, bodyWalk, recordWith, recordWalk}
 use Rattle.layout.specs.Reading.Sheets.{sizeChecks, passportChecks, descriptorChecks, reservedChecks, sheetWalk}
 use Rattle.layout.specs.Shared.Carried.{restChecks, carriedChecks}
 use Rattle.layout.specs.Shared.Reference.{byte20, byte21, byte22, referenceChecks}
@@ -22,7 +22,7 @@ use Rattle.layout.specs.Writing.Tables.{flattenHeader, flattenPart, flat
 
 unfoldable pub computing : Unit {0}
 unfolding restChecks carriedChecks byte20 byte21 byte22 referenceChecks visibilityOf itemChecks itemWalk textWalk partWalk subobjectWalk metricWalk lengthChecks
-    countChecks headerWalk bodyWalk recordWith recordWalk sizeChecks passportChecks descriptorChecks reservedChecks sheetWalk encodeItem encodeText encodePart
+    markChecks headerWalk bodyWalk recordWith recordWalk sizeChecks passportChecks descriptorChecks reservedChecks sheetWalk encodeItem encodeText encodePart
     encodeSubobject encodeMetric encodeSemantics encodeHeader encodeRecord encodeHead encodeWith sheetSum encode itemYears recordYears years flattenHeader
     flattenPart flattenItem flattenRecord flatten itemRules takeItem firstRules laterRules elementRules textRules takePart roomRules nameRules countRules
     rowRules takeInside rowWalk endRules rowsWalk titleRules headWalk limitRules tableWalk reading unfolded roomy asked written checkedOf foundOf headedOf

@@ -1,5 +1,5 @@
 -- What reading, writing and the layout share. No round trip can see a mistake here, since both ways would make it:
--- so each stands beside small cases of its own, and is to be held against document 01 line by line.
+-- so each stands beside small cases of its own, and is to be held against the documents line by line.
 pub mod Texts
 pub mod Carried
 pub mod Reference

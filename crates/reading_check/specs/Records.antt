@@ -12,7 +12,7 @@ use Rattle.layout.specs.Answers.Enums.{refusal}
 use Rattle.layout.specs.Bytes.{some, agree}
 use Rattle.layout.specs.Fields.Header as Field
 use Rattle.layout.specs.Reading.Items.{itemWalk}
-use Rattle.layout.specs.Reading.Records.{Header, headerIn, lengthChecks, countChecks, bodyWalk, metricIn, semanticsIn}
+use Rattle.layout.specs.Reading.Records.{Header, headerIn, lengthChecks, markChecks, bodyWalk, metricIn, semanticsIn}
 use Rattle.layout.specs.Refusals.{LENGTH}
 use Rattle.layout.specs.Shared.Reference.{referenceChecks}
 use Rattle.layout.specs.Sheet.{Record}
@@ -23,7 +23,7 @@ use Rattle.layout.specs.Writing.Tables.{joined, flattenItem}
 abbrev pub headerChecks : ℕ → Header → List Check
 headerChecks left h =
     lengthChecks left h
-    ++ (referenceChecks (Field.byte20 .place) (Field.byte21 .place) (Field.byte22 .place) (h .reference) ++ countChecks h)
+    ++ (referenceChecks (Field.byte20 .place) (Field.byte21 .place) (Field.byte22 .place) (h .reference) ++ markChecks h)
 
 -- the header of the record that xs start with, which the checks let through
 pub record Passed (xs : List ℕ) (h : Header) : Type 0 where

@@ -16,6 +16,8 @@ use Rattle.sxf.proofs.values.sxf_value_of.Kinds as value-of-kinds
 use Rattle.sxf.proofs.values.sxf_value_of.Reads as value-of
 use Rattle.sxf.proofs.values.sxf_visibility_of.Kinds as visibility-of-kinds
 use Rattle.sxf.proofs.values.sxf_visibility_of.Reads as visibility-of
+use Rattle.sxf.proofs.version.sxf_version.Kinds as version-kinds
+use Rattle.sxf.proofs.version.sxf_version.Reads as version
 use Rattle.sxf.proofs.records.sxf_record_at.Kinds as record-at-kinds
 use Rattle.sxf.proofs.records.sxf_record_at.Reads as record-at
 use Rattle.sxf.proofs.sheets.sxf_check.Kinds as check-kinds
@@ -82,3 +84,6 @@ pub once-sxf-from-utf16 : (κs : Lfts 2) (a : Dens κs from-kinds.ps) (x y : res
     (e f : AtExit (endedOf 2 from-kinds.ps from-kinds.r) κs)
     → from-utf16.Post κs a x e → from-utf16.Post κs a y f → (x ≡ y) × (now (e .1 .1 .0) ≡ now (f .1 .1 .0))
 once-sxf-from-utf16 κs a x y e f p q = (p .0 ∙ sym (q .0), p .1 ∙ sym (q .1))
+
+pub once-sxf-version : Once version-kinds.ps version-kinds.r version.Post
+once-sxf-version κs a x y e f p q = p ∙ sym q

@@ -12,4 +12,5 @@ pub mod tables;
 pub mod texts;
 mod units;
 pub mod values;
+pub mod version;
 mod written;

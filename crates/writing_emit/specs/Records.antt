@@ -22,8 +22,8 @@ namesOf ns =
     ++ stored Header.group (Row.nth ns Row.group)
 
 -- reference bytes, generalisation, the word at +24
-unfoldable pub flagsOf : List ℕ → List ℕ
-flagsOf ns =
+unfoldable pub referenceAndWord : List ℕ → List ℕ
+referenceAndWord ns =
     stored Header.byte20 (Row.referenceOf (Row.nth ns Row.reference) .byte20)
     ++ stored Header.byte21 (Row.referenceOf (Row.nth ns Row.reference) .byte21)
     ++ stored Header.byte22 (Row.referenceOf (Row.nth ns Row.reference) .byte22)
@@ -40,7 +40,7 @@ countsOf ns =
     stored Header.subobjects (Row.nth ns Row.parts - 1) ++ stored Header.points (pointsOf (Row.nth ns Row.mark) (Row.nth ns firstPoints))
 
 unfoldable pub headerOf : List ℕ → ℕ → ℕ → List ℕ
-headerOf ns metric semantics = lengthsOf metric semantics ++ namesOf ns ++ flagsOf ns ++ countsOf ns
+headerOf ns metric semantics = lengthsOf metric semantics ++ namesOf ns ++ referenceAndWord ns ++ countsOf ns
 
 -- what an accepted row keeps: each number fits its field
 pub record RowFits (ns : List ℕ) : Type 0 where

@@ -4,7 +4,7 @@ ghost use Prim.Native.Nat.{_+_, _≤_, _<_, _^_};
 ghost use lib.ListN.{length, drop};
 ghost use lib.Seq.{sets};
 ghost use Rattle.layout.specs.Fields.Header;
-ghost use Rattle.writing_emit.specs.Records.{lengthsOf, namesOf, flagsOf, countsOf, headerOf, RowFits};
+ghost use Rattle.writing_emit.specs.Records.{lengthsOf, namesOf, referenceAndWord, countsOf, headerOf, RowFits};
 ghost use Rattle.layout.specs.Layout.Fine.{Fits};
 ghost use Rattle.layout.specs.Shared.Mark.{pointsOf};
 ghost use Rattle.layout.specs.Shared.Row.{rowWidth};
@@ -43,9 +43,9 @@ fn put_names(table: &[u64], at: usize, out: &mut [u8], w: usize)
 }
 
 // "+20 to +22 reference bytes; +23 generalisation; +24 a word"
-fn put_flags(table: &[u64], at: usize, out: &mut [u8], w: usize)
+fn put_reference_and_word(table: &[u64], at: usize, out: &mut [u8], w: usize)
     requires { ⌜ (at + rowWidth ≤ length (now table)) × RowFits (drop at (now table)) × (w + 8 ≤ length (now out)) ⌝ }
-    ensures { λ _. ⌜ now (out .exit) ≡ sets (now (out .entry)) w (flagsOf (drop at (now (table .entry)))) ⌝ }
+    ensures { λ _. ⌜ now (out .exit) ≡ sets (now (out .entry)) w (referenceAndWord (drop at (now (table .entry)))) ⌝ }
 {
     let b = records::reference_bytes(table[at + row::REFERENCE]);
     numbers::put_u8(out, w, b.b20);
@@ -98,6 +98,6 @@ pub fn put_header(
 {
     put_lengths(out, w, metric, semantics);
     put_names(table, at, out, w + header::CODE);
-    put_flags(table, at, out, w + header::BYTE20);
+    put_reference_and_word(table, at, out, w + header::BYTE20);
     put_counts(table, at, out, w + header::SUBOBJECTS);
 }

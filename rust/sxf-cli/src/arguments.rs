@@ -64,8 +64,8 @@ pub enum Command {
     ///
     /// The file is written whole or not at all. Where the head has `records`, so many records must follow; without it any number may. A text is
     /// taken as characters (title, label, an item's text), by its coding, or as bytes (title_bytes, label_bytes, an item's scale and value). A
-    /// record whose line has no `mark` has it where its points need it: 65535 or more in the first part, more than 65535 in a later one. The
-    /// lines are UTF-8.
+    /// record whose line has no `mark` has it where its points need it: 65535 or more in the first part, more than 65535 in a later one. `word` is
+    /// taken as it stands, so who changes the points of the first part under the mark changes `word` too. The lines are UTF-8.
     Write {
         /// The JSON lines
         json: PathBuf,

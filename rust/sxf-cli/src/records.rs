@@ -3,7 +3,7 @@ use crate::json::{ItemLine, PartLine, RecordLine};
 use crate::text::Given;
 use std::borrow::Cow;
 use sxf::table::needs_mark;
-use sxf::{row, Coding, NewItem, Reference, Table};
+use sxf::{row, Coding, NewItem, Reference, Refusal, Row, Table};
 
 /// The table, and the first line of each of its records.
 pub struct Records {
@@ -22,12 +22,27 @@ impl Records {
         self.lines.len()
     }
 
-    /// The line and the field of an index of the table's numbers, in brackets.
-    pub fn place(&self, index: usize) -> String {
-        let spot = self.table.lend().spot(index);
-        match spot.and_then(|spot| Some((spot, self.lines.get(spot.record)?))) {
-            Some((spot, line)) => format!(" (line {line}, {spot})"),
-            None => " (an index of the record table)".to_string(),
+    /// A refusal of the table, with the line and the field that it is about in brackets.
+    pub fn told(&self, refusal: &Refusal) -> String {
+        let spot = self.table.lend().spot(refusal.place);
+        let place = match spot.and_then(|spot| Some((spot, self.lines.get(spot.record)?))) {
+            Some((spot, line)) => format!("line {line}, {spot}"),
+            None => "an index of the record table".to_string(),
+        };
+        let told = match self.meaning(refusal) {
+            Some(meaning) => refusal.meaning_here(meaning),
+            None => refusal.to_string(),
+        };
+        format!("{told} ({place})")
+    }
+
+    /// What is to be changed, where the mark is refused or a count does not go with it.
+    fn meaning(&self, refusal: &Refusal) -> Option<String> {
+        let (number, spot) = (self.table.numbers.get(refusal.place)?, self.table.lend().spot(refusal.place)?);
+        match refusal.number {
+            Refusal::TABLE if spot.own() == Some(row::MARK) => Some(format!("mark is {number}; it must be 0 or 1")),
+            Refusal::COUNT => Some(count_meaning(&self.table.rows().nth(spot.record)?, *number)),
+            _ => None,
         }
     }
 
@@ -83,6 +98,21 @@ impl Records {
         self.table.bytes.extend_from_slice(&value);
         Ok(())
     }
+}
+
+/// What is to be changed in a row that is refused for the points of a part. Without the mark they need it; with it they are the first part's, and
+/// the word differs.
+fn count_meaning(row: &Row<'_>, points: u64) -> String {
+    let row::Record { word, mark, .. } = row::Record::of(row.numbers);
+    if mark == 0 {
+        return format!("mark is 0; {points} points need it to be 1");
+    }
+    let counts = row.parts.iter().map(|part| part[row::POINTS]);
+    let why = match counts.clone().max() {
+        Some(most) if needs_mark(counts) => format!(", which {most} points need,"),
+        _ => String::new(),
+    };
+    format!("word is {word}; under the mark{why} it must be {points}, the first part's points")
 }
 
 /// The mark that a line states. Where it states none, its points say whether it is needed.

@@ -26,14 +26,14 @@ pub fn run(json: &Path, target: &Target<'_>, setting: Setting, out: &mut dyn Wri
 /// The refusal with the line of the JSON that it is about.
 fn told(json: &Path, head: &Head<'_>, records: &Records, setting: Setting, refusal: Refusal) -> Failure {
     let whole = [Refusal::TOO_LONG, Refusal::ROOM, Refusal::ASK].contains(&refusal.number);
-    let place = if whole {
-        String::new()
+    let told = if whole {
+        refusal.to_string()
     } else if check_head(head, setting).is_err() {
-        " (the head; the place is the sheet's)".to_string()
+        format!("{refusal} (the head; the place is the sheet's)")
     } else {
-        records.place(refusal.place)
+        records.told(&refusal)
     };
-    Failure::Refused(format!("{}: {refusal}{place}", json.display()))
+    Failure::Refused(format!("{}: {told}", json.display()))
 }
 
 /// The head and the records.

@@ -133,6 +133,8 @@ pub struct Written {
 }
 
 extern "C" {
+    pub fn sxf_version() -> u32;
+
     pub fn sxf_check(sheet: *const u8, sheet_len: usize, year: u32) -> Checked;
 
     pub fn sxf_unfold(

@@ -3,6 +3,18 @@
 use crate::calls::*;
 use crate::fields::{Carried, Rest};
 use crate::refusals;
+use crate::VERSION;
+
+/// The version that the archive has. An archive of rows of eight numbers does not have the call, so that linking with it fails.
+pub fn version() -> u32 {
+    // SAFETY: it takes nothing.
+    unsafe { sxf_version() }
+}
+
+/// Sees to it that the archive has the record table and the structs that this crate declares: with others each record would be misread.
+fn of_this_version() {
+    assert_eq!(version(), VERSION, "libsxf.a is of another version than sxf-sys: run `rt staticlib sxf` again");
+}
 
 /// Checks a sheet.
 pub fn check(sheet: &[u8], year: u32) -> Checked {
@@ -12,6 +24,7 @@ pub fn check(sheet: &[u8], year: u32) -> Checked {
 
 /// Checks a sheet and unfolds its record table into three slices.
 pub fn unfold(sheet: &[u8], year: u32, table: &mut [u64], elements: &mut [u64], bytes: &mut [u8]) -> Checked {
+    of_this_version();
     let (t, e, b) = (table.len(), elements.len(), bytes.len());
     // SAFETY: each pointer and length are one slice's, lent for the call; the three it writes are borrowed mutably, so that no two of the
     // four overlap, and it writes within the lengths given.
@@ -24,6 +37,7 @@ pub type Unfolded = (Vec<u64>, Vec<u64>, Vec<u8>);
 /// Unfolds into new vectors of exactly these lengths. Their memory is asked for and not filled first, since the archive writes all of it.
 /// They are empty unless the answer is success and states these lengths.
 pub fn unfold_new(sheet: &[u8], year: u32, lengths: [usize; 3]) -> (Checked, Unfolded) {
+    of_this_version();
     let [n, e, b] = lengths;
     let (mut numbers, mut elements, mut bytes) = (Vec::with_capacity(n), Vec::with_capacity(e), Vec::with_capacity(b));
     // SAFETY: the sheet is a slice, lent for the call, which only reads it. Each of the three has room for as many as are lent of it, is not
@@ -47,6 +61,7 @@ pub fn unfold_new(sheet: &[u8], year: u32, lengths: [usize; 3]) -> (Checked, Unf
 
 /// The record of a number, from 0.
 pub fn record_at(sheet: &[u8], year: u32, record: u64) -> Record {
+    of_this_version();
     // SAFETY: as `check`.
     unsafe { sxf_record_at(sheet.as_ptr(), sheet.len(), year, record) }
 }
@@ -106,6 +121,7 @@ pub struct Contents<'a> {
 
 /// Writes a sheet into a slice.
 pub fn write(year: u32, from: &Contents<'_>, out: &mut [u8]) -> Written {
+    of_this_version();
     // SAFETY: each pointer and length are one slice's, and the two arrays have the lengths declared, all lent for the call; the output is
     // borrowed mutably, so that it overlaps none of them, and the call writes within its length.
     unsafe {

@@ -9,7 +9,7 @@ pub const SPLINE_BITS: u32 = 2004;
 pub const NORTH_OFFSET: u32 = 2004;
 /// Any byte that is not zero at +392.
 pub const EAST_OFFSET: u32 = 2004;
-/// The mark 65535 for many points.
+/// The mark: the points at +30 are 65535.
 pub const MARK_65535: u32 = 2004;
 /// An accuracy that is not 0.
 pub const ACCURACY_SET: u32 = 2006;

@@ -1,8 +1,7 @@
 //! Holds what this crate declares against `include/sxf.h`: each number, and each struct and call with the names, the order and the types of
 //! its fields and parameters.
 use sxf_sys::fields::{descriptor, passport, START};
-use sxf_sys::row::{ITEM_WIDTH, PART_WIDTH, ROW_WIDTH};
-use sxf_sys::{codings, dimensions, kinds, refusals, units, Carried, Rest, LIMIT, VERSION};
+use sxf_sys::{codings, dimensions, kinds, lent, refusals, row, units, Carried, Rest, LIMIT, VERSION};
 
 const HEADER: &str = include_str!("../../../include/sxf.h");
 const CALLS: &str = include_str!("../src/calls.rs");
@@ -57,9 +56,24 @@ fn numbers_are_the_headers() {
         ("SXF_REST_SIZE", passport::REST.width as u64),
         ("SXF_CARRIED_SIZE", descriptor::CARRIED.width as u64),
         ("SXF_LIMIT", LIMIT as u64),
-        ("SXF_ROW_WIDTH", ROW_WIDTH as u64),
-        ("SXF_PART_WIDTH", PART_WIDTH as u64),
-        ("SXF_ITEM_WIDTH", ITEM_WIDTH as u64),
+        ("SXF_ROW_CODE", row::CODE as u64),
+        ("SXF_ROW_IN_GROUP", row::IN_GROUP as u64),
+        ("SXF_ROW_GROUP", row::GROUP as u64),
+        ("SXF_ROW_REFERENCE", row::REFERENCE as u64),
+        ("SXF_ROW_GENERALISATION", row::GENERALISATION as u64),
+        ("SXF_ROW_WORD", row::WORD as u64),
+        ("SXF_ROW_PARTS", row::PARTS as u64),
+        ("SXF_ROW_ITEMS", row::ITEMS as u64),
+        ("SXF_ROW_MARK", row::MARK as u64),
+        ("SXF_ROW_WIDTH", row::ROW_WIDTH as u64),
+        ("SXF_PART_POINTS", row::POINTS as u64),
+        ("SXF_PART_TEXT_LENGTH", row::TEXT_LENGTH as u64),
+        ("SXF_PART_WIDTH", row::PART_WIDTH as u64),
+        ("SXF_ITEM_CODE", row::ITEM_CODE as u64),
+        ("SXF_ITEM_TYPE", row::ITEM_TYPE as u64),
+        ("SXF_ITEM_SCALE", row::ITEM_SCALE as u64),
+        ("SXF_ITEM_LENGTH", row::ITEM_LENGTH as u64),
+        ("SXF_ITEM_WIDTH", row::ITEM_WIDTH as u64),
         ("SXF_DEVICE_POINTS", units::DEVICE_POINTS),
         ("SXF_METRES", units::METRES),
         ("SXF_RADIANS", units::RADIANS),
@@ -82,7 +96,8 @@ fn numbers_are_the_headers() {
 }
 
 #[test]
-fn version_is_the_headers() {
+fn version_is_the_headers_and_the_archives() {
+    assert_eq!(lent::version(), VERSION);
     let defined: Vec<&str> = HEADER.lines().filter_map(|line| line.strip_prefix("#define SXF_VERSION ")).collect();
     assert_eq!(defined, [VERSION.to_string()]);
 }
@@ -136,16 +151,24 @@ fn structs(header: &str) -> Vec<String> {
     between(header, "typedef struct {", ";\n\n").iter().map(declared).collect()
 }
 
+/// What a call answers: a struct, or a number by itself.
+fn answer_type(c: &str) -> String {
+    if c.starts_with("sxf_") {
+        struct_name(c)
+    } else {
+        number_type(c).to_string()
+    }
+}
+
 /// Each call of the header as Rust declares it, without spaces.
 fn calls(header: &str) -> Vec<String> {
     let call = |statement: &str| {
         let (answer, call) = statement.trim().split_once(' ')?;
         let (name, parameters) = call.strip_suffix(')')?.split_once('(')?;
-        let parameters: Vec<String> = parameters.split(',').map(parameter).collect();
-        let is_call = answer.starts_with("sxf_");
-        is_call.then(|| format!("pubfn{name}({})->{};", parameters.join(","), struct_name(answer)))
+        let parameters: Vec<String> = parameters.split(',').filter(|&c| c != "void").map(parameter).collect();
+        name.starts_with("sxf_").then(|| format!("pubfn{name}({})->{};", parameters.join(","), answer_type(answer)))
     };
-    header.split(';').filter(|statement| statement.trim().starts_with("sxf_")).filter_map(call).collect()
+    header.split(';').filter(|statement| !statement.trim().starts_with('#')).filter_map(call).collect()
 }
 
 /// The declarations of this crate without comments, attributes, spaces and last commas.
@@ -163,5 +186,5 @@ fn structs_and_calls_are_the_headers() {
         assert!(declared.contains(each), "not declared so: {each}");
     }
     assert_eq!((structs.len(), declared.matches("pubstruct").count()), (9, 9));
-    assert_eq!((calls.len(), declared.matches("pubfn").count()), (12, 12));
+    assert_eq!((calls.len(), declared.matches("pubfn").count()), (13, 13));
 }

@@ -60,7 +60,7 @@ named! {
     TOO_NEW "TOO NEW" "a feature here is later than the setting"
     NOT_CARRIED "NOT CARRIED" "a record has a binding vector or graphics, which are not carried"
     LENGTH "LENGTH" "a length is too small, does not fit, or leaves bytes over"
-    COUNT "COUNT" "a count of points needs the mark 65535, which the record does not have, or under the mark the word at +24 is not the first part's points"
+    COUNT "COUNT" "a count of points needs the mark 65535, which the record lacks, or under the mark differs from the word at +24"
     SEMANTIC "SEMANTIC" "a semantic item has an unknown type, a bad scale or a bad length"
     LEFT_OVER "LEFT OVER" "there are bytes after the last record"
     TABLE "TABLE" "the record table is not well formed here"
@@ -79,7 +79,7 @@ impl Refusal {
     }
 
     /// It as it prints, with another sentence in place of its [`meaning`](Refusal::meaning): for a caller who knows which of the two meanings of
-    /// [`ASK`](Refusal::ASK) it has.
+    /// [`ASK`](Refusal::ASK) or [`COUNT`](Refusal::COUNT) it has.
     ///
     /// ```
     /// let refusal = sxf::Setting::new(2005).unwrap_err();

@@ -263,6 +263,16 @@ pub struct Spot {
     inner: Inner,
 }
 
+impl Spot {
+    /// Which of the record's own numbers it is, by the indices of [`row`]; none where it is a part's or an item's.
+    pub fn own(&self) -> Option<usize> {
+        match self.inner {
+            Inner::Number(column) => Some(column),
+            Inner::Part(..) | Inner::Item(..) => None,
+        }
+    }
+}
+
 /// A column of the record's own numbers, or the number of a part or an item and a column of that.
 #[derive(Clone, Copy, Debug, PartialEq, Eq)]
 enum Inner {
@@ -387,6 +397,7 @@ mod tests {
         assert_eq!(told(part + row::TEXT_LENGTH).as_deref(), Some("record 0, part 0, text length"));
         assert_eq!(told(item + row::ITEM_LENGTH).as_deref(), Some("record 0, item 0, value length"));
         assert_eq!((told(Q.len()), told(usize::MAX)), (None, None));
+        assert_eq!([row::MARK, part, item].map(|index| q().spot(index).and_then(|spot| spot.own())), [Some(row::MARK), None, None]);
         let twice = [Q, Q].concat();
         let told = |index| TableRef { numbers: &twice, ..q() }.spot(index).map(|spot| spot.to_string());
         assert_eq!(told(Q.len() + item + row::ITEM_CODE).as_deref(), Some("record 1, item 0, code"));

@@ -123,7 +123,19 @@ impl<'a> Writer<'a> {
         self.table.push_row(row);
     }
 
-    /// Writes the sheet.
+    /// Writes the sheet. A refusal's place is as for [`write()`]; where it is an index of the table's numbers, [`spot`](TableRef::spot) names the
+    /// number there.
+    ///
+    /// ```
+    /// use sxf::{Head, NewPart, NewRecord, Reference, Setting, Writer};
+    ///
+    /// let mut writer = Writer::new(Head::PLAIN)?;
+    /// writer.push(&NewRecord::new(31_120_000, Reference(1)).part(NewPart::default()).mark())?;
+    /// let refusal = writer.write(Setting::Y1999).unwrap_err();
+    /// let spot = writer.table().spot(refusal.place).expect("a number of the table");
+    /// assert_eq!((refusal.name(), spot.to_string().as_str()), ("TOO NEW", "record 0, mark"));
+    /// # Ok::<(), Box<dyn std::error::Error>>(())
+    /// ```
     pub fn write(&self, setting: Setting) -> Result<Vec<u8>, Refusal> {
         write(&self.head, self.table.lend(), setting)
     }
@@ -230,7 +242,9 @@ impl NewRecord {
 }
 
 /// A record that was read, to be written again or changed first. Its labels are the bytes that they were: a head whose byte 97 names another
-/// coding makes other characters of them.
+/// coding makes other characters of them. One that was read with the mark has it asked for, so without the long part that needed it the
+/// record still has it, and is TOO NEW at the mark's number for 1999. Where `mark` is then set to false, the old count of the first part's points
+/// stays as the word, and is carried.
 ///
 /// ```
 /// use sxf::{NewRecord, Setting, Sheet, Writer};

@@ -94,6 +94,21 @@ fn a_record_that_was_read_keeps_its_mark() {
     assert_eq!(stored(&sheet_of(&NewRecord { mark: false, ..shorter })), (3, 4));
 }
 
+/// Without the island that needed it the mark is still there, until it is taken away by hand; the old count is then the word that is carried.
+#[test]
+fn the_mark_outlasts_the_island_that_needed_it() {
+    let bytes = sheet_of(&with_points(&[10, 70_000]));
+    let mut shore = NewRecord::from(read(&bytes).record(0).expect("a record"));
+    shore.parts.truncate(1);
+    shore.parts[0].points.pop();
+    let too_new = Refusal { number: Refusal::TOO_NEW, place: row::MARK, year: 2004 };
+    assert_eq!(pushed(std::slice::from_ref(&shore)).write(Setting::Y1999), Err(too_new));
+    assert_eq!(stored(&sheet_of(&shore)), (65_535, 9));
+    shore.mark = false;
+    assert!(pushed(std::slice::from_ref(&shore)).write(Setting::Y1999).is_ok());
+    assert_eq!(stored(&sheet_of(&shore)), (9, 10));
+}
+
 /// "The mark's year stays 2004, and the writer's TOO NEW now stands at the mark's number" (02, request 2), asked for or not.
 #[test]
 fn a_mark_that_is_too_new_is_told_at_its_number() {

@@ -1,5 +1,5 @@
 -- A short shore with a long island (02, request 2): the mark over a small first count, in reading and in writing.
-use Prim.Native.Nat.{ℕ, _+_, _<_}
+use Prim.Native.Nat.{ℕ, zero, suc, _+_, _<_, _≤_}
 use mathlib.Core.Bool.{true, false}
 use mathlib.Core.List.{List, [], _∷_}
 use mathlib.Core.Path.{_≡_, refl, sym, _∙_, subst}
@@ -8,23 +8,26 @@ use lib.ListN.{length, take, drop, length-append}
 use native.Mathlib.Omega.{arith}
 use Rattle.layout.specs.Answers.Calls.{Rooms, reading, unfolded, asked, written}
 use Rattle.layout.specs.Answers.Enums.{foundOf}
-use Rattle.layout.specs.Bytes.{All}
+use Rattle.layout.specs.Bytes.{All, FitAll, repeat}
 use Rattle.layout.specs.Computing.{computing}
 use Rattle.layout.specs.Layout.Encode.{encodeRecord, encode}
-use Rattle.layout.specs.Layout.Fine.{FinePart, FineSubobject, FineRecord, FineHead}
+use Rattle.layout.specs.Layout.Fine.{FinePart, FineSubobject, FineRecord, FineHead, Fine}
 use Rattle.layout.specs.Layout.Sizes.{recordBytes}
-use Rattle.layout.specs.Reading.Sheets.{sheetWalk}
+use Rattle.layout.specs.Layout.Uses.{recordYears, years}
 use Rattle.layout.specs.Refusals.{LENGTH, COUNT, TOO-NEW}
 use Rattle.layout.specs.Shared.Mark.{n1Of, hasMark, goodFirst}
 use Rattle.layout.specs.Shared.Reference.{referenceChecks, byte20, byte21, byte22}
 use Rattle.layout.specs.Sheet.{Part, Reference, Record, Head, Sheet, Table}
-use Rattle.layout.specs.Walk.{given, refused, ends, outcome}
-use Rattle.layout.specs.Writing.Tables.{table, flattenRecord}
+use Rattle.layout.specs.Walk.{given, refused}
+use Rattle.layout.specs.Writing.Tables.{table, flattenRecord, flatten}
+use Rattle.layout.specs.Years.{isSetting}
 use Rattle.layout.specs.declared.Found.the-variants as Found
+use Rattle.laws.proofs.Again.{written-again}
 use Rattle.laws.proofs.Base.Lists.{_&_}
+use Rattle.laws.proofs.Called.{reading-complete}
 use Rattle.laws.proofs.Cases.Reading.{sealed}
 use Rattle.laws.proofs.Encoding.Lengths.{length-encode}
-use Rattle.laws.proofs.Exact.{read-encoded}
+use Rattle.laws.proofs.Encoding.Plain.{encode-bytes}
 use Rattle.laws.proofs.Samples.{with, sheet, point, sheetP, headOf}
 use Rattle.laws.proofs.Writing.Records.{NearRecord, near-fine}
 use Rattle.laws.proofs.Writing.Sizes.{record-length}
@@ -37,7 +40,7 @@ sheetS = sealed (with 476 (1 ∷ 0 ∷ 0 ∷ 0 ∷ 0 ∷ 0 ∷ 0xFF ∷ 0xFF ∷
 abbrev tableS : Table
 tableS = table (0 ∷ 0 ∷ 0 ∷ 2 ∷ 255 ∷ 1 ∷ 1 ∷ 0 ∷ 1 ∷ 1 ∷ 0 ∷ []) (3 ∷ 4 ∷ []) []
 
--- the same with a subobject after it, of which these are the bytes
+-- an area whose first part is that point, with a subobject after it, of which these are the bytes
 abbrev island : List ℕ → List ℕ
 island bs =
     let size : ℕ = 4 + length bs in
@@ -132,15 +135,38 @@ lake-fine shore isle ten many fs fi =
     let size : length (encodeRecord (lake shore isle)) ≡ 280076 = record-length (lake shore isle) near ∙ omega arith in
     (near-fine (lake shore isle) near (omega (arith, size)), size)
 
--- So a sheet that holds it is read, and as what it holds.
-pub lake-read : (h : Head) → FineHead h → (shore isle : Part) → shore .points ≡ 10 → isle .points ≡ 70000 → FinePart area shore → FinePart area isle
+-- its one feature is the mark
+pub lake-years : (shore isle : Part) → recordYears (lake shore isle) ≡ 2004 ∷ []
+unfolding computing recordYears
+lake-years shore isle = refl
+
+-- So a sheet that holds it is read as what it holds, and is written from its table, at every setting that none of its features is later than.
+pub lake-both-ways : (h : Head) → FineHead h → (shore isle : Part) → shore .points ≡ 10 → isle .points ≡ 70000
+    → FinePart area shore → FinePart area isle → (year : ℕ) → isSetting year ≡ true
     → let t : Sheet = record { head = h; records = lake shore isle ∷ [] } in
-    (length (encode t) ≡ 280528) × (outcome (sheetWalk (encode t)) ≡ ends t)
-lake-read h fh shore isle ten many fs fi =
+    All (λ z. z ≤ year) (years t)
+    → (length (encode t) ≡ 280528) × (reading year (encode t) ≡ given t) × (written year h (flatten (t .records)) 280528 ≡ given (encode t))
+lake-both-ways h fh shore isle ten many fs fi year ok old =
     let t : Sheet = record { head = h; records = lake shore isle ∷ [] } in
     let r = lake-fine shore isle ten many fs fi in
     let size : length (encode t) ≡ 280528 = omega (arith, length-encode t fh, length-append (encodeRecord (lake shore isle)) [], r .1) in
-    (size, read-encoded t (record { short = omega (arith, size); head = fh; count = omega arith; records = (r .0, tt) }))
+    let fine : Fine t = record { short = omega (arith, size); head = fh; count = omega arith; records = (r .0, tt) } in
+    let read = reading-complete year (encode t) t (record { setting = ok; fine = fine; old = old; is = refl }) in
+    (size, read, written-again year (encode t) (encode-bytes t fine) t read 280528 (omega (arith, size)))
+
+-- There are such parts, of any count: all points at 0, 0.
+abbrev still : ℕ → Part
+still n = record { points = n; elements = repeat n (0 ∷ 0 ∷ []); text = [] }
+
+still-fits : (n : ℕ) → FitAll (repeat n (2 ∷ 2 ∷ [])) (repeat n (0 ∷ 0 ∷ []))
+still-fits zero = tt
+still-fits (suc n) = (omega arith, (omega arith, still-fits n))
+
+still-fine : (n : ℕ) → FinePart area (still n)
+still-fine n = record { elements = still-fits n; label = refl }
+
+pub still-lake : FineRecord (lake (still 10) (still 70000))
+still-lake = lake-fine (still 10) (still 70000) refl refl (still-fine 10) (still-fine 70000) .0
 
 -- "Such a record must carry the mark, or the island's count has no room for its upper half."
 no-room : (r : Reference) (l : List Part) → All (FineSubobject r false) l → All (λ a. a .points < 65536) l

@@ -16,9 +16,9 @@ use Rattle.layout.specs.Layout.Uses.{itemYears, recordYears}
 use Rattle.layout.specs.Reading.Items.{itemWalk}
 use Rattle.layout.specs.Reading.Parts.{metricWalk}
 use Rattle.layout.specs.Reading.Records.{Header, headerIn, metricIn, semanticsIn, recordFrom}
-use Rattle.layout.specs.Reading.Records.{lengthChecks, countChecks, headerWalk, bodyWalk, recordWith, recordWalk}
+use Rattle.layout.specs.Reading.Records.{lengthChecks, markChecks, headerWalk, bodyWalk, recordWith, recordWalk}
 use Rattle.layout.specs.Refusals.{SHORT, LENGTH}
-use Rattle.layout.specs.Shared.Mark.{mark, isMark, firstCount, markOf, hasMark, pointsOf, goodFirst}
+use Rattle.layout.specs.Shared.Mark.{markedPoints, isMark, firstCount, markOf, hasMark, pointsOf, goodFirst}
 use Rattle.layout.specs.Shared.Reference.{referenceChecks, semantics}
 use Rattle.layout.specs.Sheet.{Item, Part, Record}
 use Rattle.layout.specs.Walk.{Walk, answer, given, _>>=_, _>>_, must, checks, holds, ends, Piece, piece, Pair, fill}
@@ -40,23 +40,23 @@ mark-back points word h = go (isMark points) refl
     go : (b : Bool) → isMark points ≡ b
         → (pointsOf (cond b 1 0) (cond b word points) ≡ points) × (hasMark (cond b 1 0) ≡ b)
         × (goodFirst (cond b 1 0) word (cond b word points) ≡ true) × (cond b 1 0 ≤ 1)
-    go true m = (sym (eqb-true points mark m), refl, eq-eqb word word refl, omega arith)
-    go false m = (refl, refl, lt-ltb points mark (omega (arith, eqb-false points mark m)), omega arith)
+    go true m = (sym (eqb-true points markedPoints m), refl, eq-eqb word word refl, omega arith)
+    go false m = (refl, refl, lt-ltb points markedPoints (omega (arith, eqb-false points markedPoints m)), omega arith)
 
 -- the same by the mark and the first count of a fine record
-pub mark-on : (number count word : ℕ) → number ≤ 1 → goodFirst number word count ≡ true
-    → (firstCount (pointsOf number count) word ≡ count) × (isMark (pointsOf number count) ≡ hasMark number)
-    × (markOf (pointsOf number count) ≡ number) × (pointsOf number count < 65536)
-mark-on number count word small e = go (hasMark number) refl e
+pub mark-on : (mark count word : ℕ) → mark ≤ 1 → goodFirst mark word count ≡ true
+    → (firstCount (pointsOf mark count) word ≡ count) × (isMark (pointsOf mark count) ≡ hasMark mark)
+    × (markOf (pointsOf mark count) ≡ mark) × (pointsOf mark count < 65536)
+mark-on mark count word small e = go (hasMark mark) refl e
   where
-    go : (b : Bool) → hasMark number ≡ b → cond b (eqb word count) (ltb count mark) ≡ true
-        → (firstCount (cond b mark count) word ≡ count) × (isMark (cond b mark count) ≡ b)
-        × (markOf (cond b mark count) ≡ number) × (cond b mark count < 65536)
-    go true m k = (eqb-true word count k, refl, sym (eqb-true number 1 m), omega arith)
+    go : (b : Bool) → hasMark mark ≡ b → cond b (eqb word count) (ltb count markedPoints) ≡ true
+        → (firstCount (cond b markedPoints count) word ≡ count) × (isMark (cond b markedPoints count) ≡ b)
+        × (markOf (cond b markedPoints count) ≡ mark) × (cond b markedPoints count < 65536)
+    go true m k = (eqb-true word count k, refl, sym (eqb-true mark 1 m), omega arith)
     go false m k =
-        let under : count < mark = ltb-true count mark k in
-        let l : isMark count ≡ false = ne-eqb count mark (λ q. omega arith) in
-        let none : 0 ≡ number = omega (arith, eqb-false number 1 m) in
+        let under : count < markedPoints = ltb-true count markedPoints k in
+        let l : isMark count ≡ false = ne-eqb count markedPoints (λ q. omega arith) in
+        let none : 0 ≡ mark = omega (arith, eqb-false mark 1 m) in
         (rw l, l, rw l none, omega arith)
 
 -- the header's fields
@@ -86,12 +86,12 @@ record-is r = refl
 -- the checks on a header, one list after another
 header-walk : {A : Type 0} (p left : ℕ) (h : Header) (w : Walk A)
     → (headerWalk p left h >> w)
-    ≡ (checks p (lengthChecks left h) >> (checks p (referenceChecks 20 21 22 (h .reference)) >> (checks p (countChecks h) >> w)))
+    ≡ (checks p (lengthChecks left h) >> (checks p (referenceChecks 20 21 22 (h .reference)) >> (checks p (markChecks h) >> w)))
 unfolding headerWalk
 header-walk p left h w =
     let reference : Walk (Unit {0}) = checks p (referenceChecks 20 21 22 (h .reference)) in
-    bind-assoc (checks p (lengthChecks left h)) (λ _. reference >> checks p (countChecks h)) (λ _. w)
-    ∙ ap (λ v. checks p (lengthChecks left h) >> v) (bind-assoc reference (λ _. checks p (countChecks h)) (λ _. w))
+    bind-assoc (checks p (lengthChecks left h)) (λ _. reference >> checks p (markChecks h)) (λ _. w)
+    ∙ ap (λ v. checks p (lengthChecks left h) >> v) (bind-assoc reference (λ _. checks p (markChecks h)) (λ _. w))
 
 items-fill : (al : ℕ → Bool) → Fills al (fill itemWalk) (flat encodeItem) (All FineItem) (flat itemYears)
 items-fill al = fill-fills al itemWalk encodeItem FineItem itemYears (item-reads al) item-grows
@@ -208,7 +208,7 @@ record-fine al xs ps is bs room cl cr b =
 
 record-sound : (al : ℕ → Bool) (p : ℕ) (xs : List ℕ) → Bytes xs → (v : Piece Record) → answer al (recordWalk p xs) ≡ given v
     → Took al encodeRecord FineRecord recordYears xs v
-unfolding recordWalk recordWith countChecks
+unfolding recordWalk recordWith markChecks
 record-sound al p xs bs v e =
     let h : Header = headerIn xs in
     let body : Walk (Piece Record) =
@@ -217,7 +217,7 @@ record-sound al p xs bs v e =
     let e1 = subst (λ w. answer al w ≡ given v) (header-walk p (length xs) h body) e0 in
     checks-case al p (lengthChecks (length xs) h) _ v e1 λ cl yl e2.
     checks-case al p (referenceChecks 20 21 22 (h .reference)) _ v e2 λ cr yr e3.
-    checks-case al p (countChecks h) body v e3 λ cp yp e4.
+    checks-case al p (markChecks h) body v e3 λ cp yp e4.
     bind-case al (bodyWalk h (p + Field.size) (metricIn (headerIn xs) xs) (semanticsIn (headerIn xs) xs)) _ v e4 λ r er g.
     let ys : List ℕ = drop 32 xs in
     let by : Bytes ys = all-drop _ 32 xs bs in
@@ -303,7 +303,7 @@ header-in r xs x f is =
 
 record-complete : (al : ℕ → Bool) (p : ℕ) (r : Record) (x : List ℕ) → FineRecord r → Allowed al (recordYears r)
     → answer al (recordWalk p (encodeRecord r ++ x)) ≡ given (piece r (length (encodeRecord r)))
-unfolding recordWalk recordWith lengthChecks countChecks
+unfolding recordWalk recordWith lengthChecks markChecks
 record-complete al p r x f y =
     let xs : List ℕ = encodeRecord r ++ x in
     let M : List ℕ = encodeMetric r in
@@ -332,7 +332,7 @@ record-complete al p r x f y =
     ∙ checks-on al p (lengthChecks (length xs) h) _
     (refl & omega (arith, le-leb) & omega (arith, le-leb) & omega (arith, le-leb) & tt) tt
     ∙ checks-on al p (referenceChecks 20 21 22 (r .reference)) _ (f .reference) (ya .0)
-    ∙ checks-on al p (countChecks h) _ tt (subst (λ z. Allowed al (markYears z)) (sym (mk .1)) (ya .1))
+    ∙ checks-on al p (markChecks h) _ tt (subst (λ z. Allowed al (markYears z)) (sym (mk .1)) (ya .1))
     ∙ bind-on al walk (λ u. ends (piece u (h .total))) r body
     ∙ ap (λ n. given (piece r n)) (sym (length-record r))
 

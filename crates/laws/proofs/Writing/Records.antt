@@ -15,7 +15,7 @@ use Rattle.layout.specs.Fields.Header
 use Rattle.layout.specs.Layout.Encode.{encodeRecord}
 use Rattle.layout.specs.Layout.Fine.{Fits, FineItem, FinePart, FineSubobject, FineRecord}
 use Rattle.layout.specs.Layout.Uses.{itemYears, recordYears}
-use Rattle.layout.specs.Shared.Mark.{mark, hasMark, goodFirst}
+use Rattle.layout.specs.Shared.Mark.{markedPoints, hasMark, goodFirst}
 use Rattle.layout.specs.Shared.Reference.{referenceChecks, semantics, byte20, byte21, byte22}
 use Rattle.layout.specs.Shared.Row
 use Rattle.layout.specs.Sheet.{Reference, Record, Table}
@@ -91,12 +91,12 @@ fine-near r f = record {
 }
 
 -- a first count under the mark stands in the word, so it fits as the word does
-count-fits : (number word points : ℕ) → word < 256 ^ 4 → goodFirst number word points ≡ true → points < 256 ^ 4
-count-fits number word points h e = go (hasMark number) e
+count-fits : (mark word points : ℕ) → word < 256 ^ 4 → goodFirst mark word points ≡ true → points < 256 ^ 4
+count-fits mark word points h e = go (hasMark mark) e
   where
-    go : (b : Bool) → cond b (eqb word points) (ltb points mark) ≡ true → points < 256 ^ 4
+    go : (b : Bool) → cond b (eqb word points) (ltb points markedPoints) ≡ true → points < 256 ^ 4
     go true e = let q : word ≡ points = eqb-true word points e in omega arith
-    go false e = let q : points < mark = ltb-true points mark e in omega arith
+    go false e = let q : points < markedPoints = ltb-true points markedPoints e in omega arith
 
 pub near-first : (r : Record) → NearRecord r → FineFirst (r .reference) (r .mark) (r .word) (r .first)
 near-first r n = record { points = count-fits (r .mark) (r .word) (r .first .points) (n .word) (n .counted); counted = n .counted; part = n .first }

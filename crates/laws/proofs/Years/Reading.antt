@@ -13,7 +13,7 @@ use Rattle.layout.specs.Fields.Passport
 use Rattle.layout.specs.Fields.Subobject
 use Rattle.layout.specs.Reading.Items.{itemIn, itemSize, itemChecks, itemWalk}
 use Rattle.layout.specs.Reading.Parts.{textWalk, partWalk, subobjectWalk, metricWalk}
-use Rattle.layout.specs.Reading.Records.{Header, headerIn, metricIn, semanticsIn, lengthChecks, countChecks, headerWalk, bodyWalk, recordWith, recordWalk}
+use Rattle.layout.specs.Reading.Records.{Header, headerIn, metricIn, semanticsIn, lengthChecks, markChecks, headerWalk, bodyWalk, recordWith, recordWalk}
 use Rattle.layout.specs.Reading.Sheets.{start, sizeChecks, passportChecks, descriptorChecks, reservedChecks, sheetWalk}
 use Rattle.layout.specs.Refusals.{SHORT, TEXT, LENGTH, COUNT, LEFT-OVER}
 use Rattle.layout.specs.Shared.Carried.{restChecks, carriedChecks}
@@ -74,10 +74,10 @@ own-metric r marked n k p xs =
     (own-pair (partWalk r n) (times k (subobjectWalk r marked)) (own-part r n) (own-times k (subobjectWalk r marked) (own-subobject r marked))) p xs
 
 own-header : (p left : ℕ) (h : Header) → Own (headerWalk p left h)
-unfolding headerWalk lengthChecks countChecks
+unfolding headerWalk lengthChecks markChecks
 own-header p left h =
     own-then p (lengthChecks left h) _ (refl & refl & refl & refl & tt)
-    (own-then p (referenceChecks 20 21 22 (h .reference)) _ (own-reference 20 21 22 (h .reference)) (own-checks p (countChecks h) (refl & tt)))
+    (own-then p (referenceChecks 20 21 22 (h .reference)) _ (own-reference 20 21 22 (h .reference)) (own-checks p (markChecks h) (refl & tt)))
 
 own-body : (h : Header) (p : ℕ) (metric after : List ℕ) → Own (bodyWalk h p metric after)
 unfolding bodyWalk

@@ -50,6 +50,11 @@ use Rattle.layout.specs.declared.structs.SxfRecord.{SxfRecord}
 use Rattle.layout.specs.declared.structs.SxfChecked.{SxfChecked}
 use Rattle.layout.specs.declared.structs.SxfWritten.{SxfWritten}
 
+-- The version of the calls for C, `SXF_VERSION` of include/sxf.h. It is raised where a program has to be changed or built again: 2, since a
+-- row has nine numbers and a record its mark (02, request 2).
+abbrev pub version : ℕ
+version = 2
+
 unfoldable pub checkedRow : Checked → SxfChecked
 checkedRow (Check.Accepted z) =
     record { number = 0; place = 0; year = 0; sum = z .sum; records = z .records; numbers = z .numbers; elements = z .elements; bytes = z .bytes }

@@ -1,9 +1,8 @@
--- What the values of a sheet must keep to be one. Each number fits its field, and document 01's rules hold.
+-- What the values of a sheet must keep to be one. Each number fits its field, and the documents' rules hold.
 use Prim.Native.Nat.{ℕ, _^_, _≤_, _<_}
-use mathlib.Core.Bool.{Bool, true, false, _||_}
+use mathlib.Core.Bool.{Bool, true, false}
 use mathlib.Core.List.{List, []}
 use mathlib.Core.Path.{_≡_}
-use lib.Dec.{eqb}
 use lib.ListN.{length}
 use Rattle.layout.specs.Bytes.{All, Bytes, Field, FitAll, repeat, some, agree}
 use Rattle.layout.specs.Fields.{limit}
@@ -14,7 +13,7 @@ use Rattle.layout.specs.Fields.Passport
 use Rattle.layout.specs.Fields.Subobject
 use Rattle.layout.specs.Layout.Encode.{encodeRecord, encode}
 use Rattle.layout.specs.Shared.Carried.{restChecks, carriedChecks}
-use Rattle.layout.specs.Shared.Mark.{hasMark, goodFirst, n1Of}
+use Rattle.layout.specs.Shared.Mark.{hasMark, goodFirst, goodN1, n1Of}
 use Rattle.layout.specs.Shared.Reference.{referenceChecks, semantics, textInMetric}
 use Rattle.layout.specs.Shared.Texts.{FineText}
 use Rattle.layout.specs.Shared.Types.{kindOf, isKnown, goodScale, valueLength, goodLength, isClosed}
@@ -55,7 +54,7 @@ pub record FinePart (r : Reference) (a : Part) : Type 0 where
 -- "With the mark its count is N2 + 65536 × N1. Without it N1 must be 0."
 pub record FineSubobject (r : Reference) (marked : Bool) (a : Part) : Type 0 where
   pub n1 : Fits Subobject.n1 (n1Of (a .points))
-  pub counted : (marked || eqb (n1Of (a .points)) 0) ≡ true
+  pub counted : goodN1 marked (n1Of (a .points)) ≡ true
   pub part : FinePart r a
 
 pub record FineRecord (r : Record) : Type 0 where

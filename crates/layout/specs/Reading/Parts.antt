@@ -1,13 +1,13 @@
 -- The parts of a record's metric. (01, Record and Order: "each metric part (head, N1, points, length byte with text, closing zero)")
 use Prim.Native.Nat.{ℕ, _+_, _*_}
-use mathlib.Core.Bool.{Bool, true, false, _||_}
+use mathlib.Core.Bool.{Bool, true, false}
 use mathlib.Core.List.{List, [], _∷_}
 use lib.Dec.{eqb, leb}
 use lib.ListN.{length, take, drop}
 use Rattle.layout.specs.Bytes.{number, numberIn, numbers, repeat}
 use Rattle.layout.specs.Fields.Subobject
 use Rattle.layout.specs.Refusals.{LENGTH, TEXT, COUNT}
-use Rattle.layout.specs.Shared.Mark.{laterCount}
+use Rattle.layout.specs.Shared.Mark.{laterCount, goodN1}
 use Rattle.layout.specs.Shared.Reference.{textInMetric}
 use Rattle.layout.specs.Shared.Widths.{widths, pointSize}
 use Rattle.layout.specs.Sheet.{Part, Reference}
@@ -32,12 +32,12 @@ partWalk r count place xs = do
   ends (piece (record { points = count; elements = numbers (repeat count (widths r)) xs; text = text .value }) (size + text .size))
 
 -- a later part: N1 and N2, then as any part; marked is whether the record has the mark
--- "LENGTH: [..] a subobject head [..] not fitting (its first byte)"; "COUNT: [..] N1 not 0 without [the mark]"
+-- "LENGTH: [..] a subobject head [..] not fitting (its first byte)"; "11 now stands only for N1 not zero without the mark" (02, request 2)
 unfoldable pub subobjectWalk : Reference → Bool → Reader Part
 subobjectWalk r marked place xs = do
   let n1 : ℕ = numberIn Subobject.n1 xs
   let n2 : ℕ = numberIn Subobject.n2 xs
-  checks place (must (leb Subobject.size (length xs)) LENGTH 0 ∷ must (marked || eqb n1 0) COUNT (Subobject.n1 .place) ∷ [])
+  checks place (must (leb Subobject.size (length xs)) LENGTH 0 ∷ must (goodN1 marked n1) COUNT (Subobject.n1 .place) ∷ [])
   part ← partWalk r (laterCount n1 n2) (place + Subobject.size) (drop Subobject.size xs)
   ends (piece (part .value) (Subobject.size + part .size))
 

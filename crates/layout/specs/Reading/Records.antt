@@ -58,8 +58,8 @@ lengthChecks left h =
     ∷ []
 
 -- points: "The mark's year stays 2004" (02, request 2), at +30; "under the mark any count in the word is good"
-unfoldable pub countChecks : Header → List Check
-countChecks h =
+unfoldable pub markChecks : Header → List Check
+markChecks h =
     dated (isMark (h .points)) (since mark-65535) (Field.points .place) ∷ []
 
 -- all checks on a header
@@ -67,7 +67,7 @@ unfoldable pub headerWalk : ℕ → ℕ → Header → Walk (Unit {0})
 headerWalk place left h = do
   checks place (lengthChecks left h)
   checks place (referenceChecks (Field.byte20 .place) (Field.byte21 .place) (Field.byte22 .place) (h .reference))
-  checks place (countChecks h)
+  checks place (markChecks h)
 
 -- the record that a header, its parts and its items make
 abbrev pub recordFrom : Header → Pair Part (List Part) → List Item → Record

@@ -7,7 +7,7 @@ use lib.ListN.{length, take, drop}
 use Rattle.layout.specs.Bytes.{repeat}
 use Rattle.layout.specs.Fields.Header
 use Rattle.layout.specs.Refusals.{COUNT, TABLE}
-use Rattle.layout.specs.Shared.Mark.{goodFirst, n1Of}
+use Rattle.layout.specs.Shared.Mark.{goodFirst, goodN1, n1Of}
 use Rattle.layout.specs.Shared.Reference.{textInMetric}
 use Rattle.layout.specs.Shared.Row
 use Rattle.layout.specs.Shared.Widths.{widths}
@@ -24,7 +24,7 @@ firstRules mark word points = fitsField Header.word points Row.points ∷ must (
 -- A later part's points; marked is whether the record has the mark: "11 now stands [..] for mark 0 with [..] a later count over 65535". A
 -- count is over 65535 where its N1 is not 0.
 unfoldable pub laterRules : Bool → ℕ → List Check
-laterRules marked points = fitsField Header.word points Row.points ∷ must (marked || eqb (n1Of points) 0) COUNT Row.points ∷ []
+laterRules marked points = fitsField Header.word points Row.points ∷ must (goodN1 marked (n1Of points)) COUNT Row.points ∷ []
 
 -- there is an element for each width, and none is too wide for its own
 abbrev pub fitAll : List ℕ → List ℕ → Bool

@@ -26,7 +26,7 @@ use Rattle.layout.specs.Fields.Header as Field
 use Rattle.layout.specs.Reading.Items.{itemWalk}
 use Rattle.layout.specs.Reading.Parts.{metricWalk}
 use Rattle.layout.specs.Reading.Records.{Header, headerIn, recordFrom, metricIn, semanticsIn}
-use Rattle.layout.specs.Reading.Records.{lengthChecks, countChecks, headerWalk, bodyWalk, recordWith, recordWalk}
+use Rattle.layout.specs.Reading.Records.{lengthChecks, markChecks, headerWalk, bodyWalk, recordWith, recordWalk}
 use Rattle.layout.specs.Refusals.{LENGTH, SHORT}
 use Rattle.layout.specs.Shared.Mark.{isMark, firstCount}
 use Rattle.layout.specs.Shared.Reference.{referenceChecks, semantics}
@@ -194,7 +194,7 @@ module _ (y p : ℕ) (xs : List ℕ) where
     halves =
         let A = lengthChecks (length xs) h in
         let B = referenceChecks 20 21 22 (h .reference) in
-        let C = countChecks h in
+        let C = markChecks h in
         rw (le-leb 32 (length xs) l)
         (bind-assoc (checks p A) (λ _. checks p B >> checks p C) (λ _. restWalk p xs)
         ∙ ap (λ w. checks p A >> w) (bind-assoc (checks p B) (λ _. checks p C) (λ _. restWalk p xs))

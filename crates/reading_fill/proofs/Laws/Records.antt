@@ -227,7 +227,8 @@ module _ (xs : List ℕ) (c : Cursor) (fits : RecordFits (drop (c .place) xs)) w
         let rest = mt .numbers ++ it .numbers in
         let dn : d .numbers ≡ c .numbers + rowWidth + length (mt .numbers) = ap (λ (z : Cursor). z .numbers) ed in
         let db : d .bytes ≡ c .bytes + length (mt .bytes) = ap (λ (z : Cursor). z .bytes) ed in
-        let tn : t₂ ≡ sets t₀ (c .numbers + rowWidth) rest = w .numbers ∙ rw (u .numbers, dn) (sym (sets-append t₀ (c .numbers + rowWidth) (mt .numbers) (it .numbers))) in
+        let tn : t₂ ≡ sets t₀ (c .numbers + rowWidth) rest =
+        w .numbers ∙ rw (u .numbers, dn) (sym (sets-append t₀ (c .numbers + rowWidth) (mt .numbers) (it .numbers))) in
         let row-is : c .numbers + length row ≡ c .numbers + rowWidth = ap (λ k. c .numbers + k) (row-length (length its)) in
         let all : t₃ ≡ sets t₀ (c .numbers) (row ++ rest) =
         h ∙ rw (counted .1, tn)

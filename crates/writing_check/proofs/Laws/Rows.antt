@@ -113,8 +113,8 @@ module _ (y : ℕ) (ns es pool : List ℕ) (a : RecordRow) (p : Places) where
   module _ (h : At ns pool p) (room : p .number + 2 ≤ length ns) (m : Moved) (e : m ≡ movedOf flattenPart (partBytes ref) p first) where
     pub first-went : (q : Places) → m ≡ Fine q → First q
     first-went q i =
-        went (upTo y) 2 (takePart ref (firstRules (a .mark) (a .word))) flattenPart (FineFirst ref (a .mark) (a .word)) (λ b. []) (first-takes (upTo y) ref (a .mark) (a .word))
-        (partBytes ref) t p h room m e q i
+        went (upTo y) 2 (takePart ref (firstRules (a .mark) (a .word))) flattenPart (FineFirst ref (a .mark) (a .word)) (λ b. [])
+        (first-takes (upTo y) ref (a .mark) (a .word)) (partBytes ref) t p h room m e q i
 
     pub first-stop : (q : Refusal) → m ≡ Refused q → Refused q ≡ movedOf insideTable insideBytes p inside
     unfolding takeInside
@@ -246,7 +246,8 @@ module _ (y : ℕ) (ns es pool : List ℕ) (p : Places) where
         let u = here all p in
         let d : length (drop (p .number) ns) ≡ length ns - p .number = length-drop (p .number) ns in
         ap (λ z. rowWith z (p .number) u) (sym row)
-        ∙ ap (λ z. rowRules (rowOf a) (p .number) (length (drop (p .number) ns)) >> takeInside (rowOf a) (p .number + Index.rowWidth) (table z (u .elements) (u .bytes)))
+        ∙ ap (λ z. rowRules (rowOf a) (p .number) (length (drop (p .number) ns))
+        >> takeInside (rowOf a) (p .number + Index.rowWidth) (table z (u .elements) (u .bytes)))
         (drop-drop Index.rowWidth (p .number) ns)
         ∙ ap (λ z. rowRules (rowOf a) (p .number) z >> rest) d
         ∙ row-rules (rowOf a) (p .number) (length ns - p .number) rest h

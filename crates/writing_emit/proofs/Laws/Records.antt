@@ -9,7 +9,7 @@ use native.Mathlib.Omega.{arith}
 use Rattle.writing_emit.specs.Cursors.{tableOf, ahead, moved}
 use Rattle.writing_emit.specs.Parts.{PartFits, metricTable, MetricFits, metricBytes}
 use Rattle.writing_emit.specs.Pieces.{Room, Piece, Emitted, Counted, pairTable, Both, pairBytes}
-use Rattle.writing_emit.specs.Records.{lengthsOf, namesOf, flagsOf, countsOf, headerOf, RowFits}
+use Rattle.writing_emit.specs.Records.{lengthsOf, namesOf, referenceAndWord, countsOf, headerOf, RowFits}
 use Rattle.writing_emit.specs.declared.cursors.Cursor.{Cursor}
 use Rattle.fields.proofs.Laws.Put.{sets-append, sets-swap}
 use Rattle.fields.specs.Shapes.{shapeOf}
@@ -122,7 +122,7 @@ module _ (ns es bs : List ℕ) (c : Cursor) (o₀ : List ℕ) (p : Piece flatten
   header = encodeHeader r metric semantics
 
   header-is : headerOf (drop (c .number) ns) metric semantics ≡ header
-  unfolding headerOf lengthsOf namesOf flagsOf countsOf encodeHeader flattenRecord flattenHeader flattenPart
+  unfolding headerOf lengthsOf namesOf referenceAndWord countsOf encodeHeader flattenRecord flattenHeader flattenPart
   header-is =
       let one : 1 + length (r .subobjects) - 1 ≡ length (r .subobjects) = omega arith in
       let e = bytes-of-number (r .reference) (p .fine .byte20) (p .fine .byte21) (p .fine .byte22) in

@@ -284,8 +284,8 @@ fn a_refused_table_is_told_with_its_line() {
         (
             "[[3,4]]",
             &many,
-            "refusal 11 COUNT at 9 (0x9): a count of points needs the mark 65535, which the record does not have, or under the mark \
-             the word at +24 is not the first part's points (line 2, record 0, part 0, points)",
+            "refusal 11 COUNT at 9 (0x9): word is 0; under the mark, which 65535 points need, it must be 65535, the first part's points \
+             (line 2, record 0, part 0, points)\n",
         ),
         ("[[3,4]]", "[[3,4]],\"label\":\"A\"", "(line 2, record 0, part 0, text length)"),
         ("[[3,4]]", "[[3,4]],\"label_bytes\":\"41\"", "(line 2, record 0, part 0, text length)"),

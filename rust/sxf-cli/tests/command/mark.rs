@@ -55,10 +55,42 @@ fn a_line_without_a_mark_has_it_where_its_points_need_it() {
         assert!(table.contains("\"mark\":1,"), "{counts:?}");
         assert!(written(&folder, table.replace("\"mark\":1,", "").as_bytes()) == marked(counts), "{counts:?}");
         let refused = write(table.replace("\"mark\":1,", "\"mark\":0,").as_bytes(), &folder.file("none.sxf"), &[]);
-        let index = row::ROW_WIDTH + part * row::PART_WIDTH;
-        assert!(told(&refused).contains(&format!("refusal 11 COUNT at {index} ({index:#x}): ")), "{}", told(&refused));
-        assert!(told(&refused).ends_with(&format!(" (line 2, record 0, part {part}, points)\n")), "{}", told(&refused));
+        let (index, points) = (row::ROW_WIDTH + part * row::PART_WIDTH, counts[part]);
+        let meaning = format!("mark is 0; {points} points need it to be 1 (line 2, record 0, part {part}, points)");
+        assert_eq!(told(&refused), format!("sxf: -: refusal 11 COUNT at {index} ({index:#x}): {meaning}\n"));
     }
+}
+
+/// Also where the line has no mark, and the long island makes it need one: the user is led to the word.
+#[test]
+fn a_wrong_word_is_told_with_the_one_that_it_must_be() {
+    let folder = Folder::new("mark-word");
+    let sheet = folder.file("island.sxf");
+    fs::write(&sheet, marked(&[10, 70_000])).expect("a file");
+    let table = out(&on("table", &sheet, &[]));
+    fs::remove_file(&sheet).expect("the file is there");
+    for mark in ["", "\"mark\":1,"] {
+        let lines = table.replace("\"word\":10,\"mark\":1,", &format!("\"word\":0,{mark}"));
+        let words = "refusal 11 COUNT at 9 (0x9): word is 0; under the mark, which 70000 points need, it must be 10, the first part's points \
+                     (line 2, record 0, part 0, points)\n";
+        is_told(&folder, 1, lines.as_bytes(), words);
+    }
+    for word in ["0", "2", "65535"] {
+        let words =
+            format!("): word is {word}; under the mark it must be 1, the first part's points (line 2, record 0, part 0, points)\n");
+        is_told(&folder, 1, &changed_in("Q", "\"word\":0,", &format!("\"word\":{word},\"mark\":1,")), &words);
+    }
+}
+
+/// The numbers told are those of the record that is refused.
+#[test]
+fn a_later_record_is_told_by_its_own_numbers() {
+    let folder = Folder::new("mark-later");
+    let without = "\"word\":4,\"parts\":";
+    let words = "): word is 5; under the mark it must be 4, the first part's points (line 3, record 1, part 0, points)\n";
+    is_told(&folder, 1, &changed_in("mark-small", without, "\"word\":5,\"mark\":1,\"parts\":"), words);
+    let words = "): mark is 3; it must be 0 or 1 (line 3, record 1, mark)\n";
+    is_told(&folder, 1, &changed_in("mark-small", without, "\"word\":4,\"mark\":3,\"parts\":"), words);
 }
 
 /// A small count has the mark only where it is stated, and the word is taken as it stands.
@@ -85,13 +117,12 @@ fn a_mark_that_is_none_is_told() {
     let folder = Folder::new("mark-refused");
     for mark in ["2", "65535", "18446744073709551615"] {
         let lines = changed_in("Q", "\"word\":0,", &format!("\"word\":1,\"mark\":{mark},"));
-        let words = "refusal 14 TABLE at 8 (0x8): the record table is not well formed here (line 2, record 0, mark)\n";
-        is_told(&folder, 1, &lines, words);
+        let words = format!("refusal 14 TABLE at 8 (0x8): mark is {mark}; it must be 0 or 1 (line 2, record 0, mark)\n");
+        is_told(&folder, 1, &lines, &words);
     }
-    let words = "under the mark the word at +24 is not the first part's points (line 2, record 0, part 0, points)\n";
-    for word in ["0", "2", "65535"] {
-        is_told(&folder, 1, &changed_in("Q", "\"word\":0,", &format!("\"word\":{word},\"mark\":1,")), words);
-    }
+    // What is wrong before the mark is told first, by its own words.
+    let lines = changed_in("Q", "\"word\":0,", "\"word\":4294967296,\"mark\":2,");
+    is_told(&folder, 1, &lines, "): the record table is not well formed here (line 2, record 0, word at +24)\n");
 }
 
 #[test]
@@ -99,4 +130,5 @@ fn help_says_how_the_mark_stands() {
     let help = |word: &str| out(&sxf(&[word, "--help"]).output().expect("sxf runs"));
     assert!(help("table").contains("A record has `mark` 1 where its points at +30 are 65535"));
     assert!(help("write").contains("A record whose line has no `mark` has it where its points need it"));
+    assert!(help("write").contains("so who changes the points of the first part under the mark changes `word` too"));
 }

@@ -1,13 +1,13 @@
 -- Each link hands on the step so far (`_▸_`): lengths, reference bytes and the mark's year join to the list `headerChecks`.
 use Rattle.fields.proofs.Laws.Chain.{_▸_}
 use Rattle.fields.specs.Headers.{headerOf}
-use Rattle.layout.specs.Reading.Records.{lengthChecks, countChecks}
+use Rattle.layout.specs.Reading.Records.{lengthChecks, markChecks}
 use borrow.Author.Needs.{needs}
 use Rattle.reading_check.proofs.headers.check_header.Statement.{statement}
 use Rattle.reading_check.proofs.headers.check_header.Tie as tie
 
 returns : tie.Need-returns
-unfolding headerOf lengthChecks countChecks
+unfolding headerOf lengthChecks markChecks
 returns c =
     let after-reference-checks = c .before .before in
     let after-beside = after-reference-checks .before .before .before in

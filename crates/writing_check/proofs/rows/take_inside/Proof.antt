@@ -22,7 +22,8 @@ take-laters-requires c κs =
     let after-take-first = to-take-first after-q in
     let start = to-start after-take-first in
     let w = first-went (start .args .year) (now (start .args .table)) (now (start .args .elements)) (now (start .args .bytes))
-    (rowOf (start .args .a)) (start .args .p) (start .pre .0) (omega arith) (after-take-first .take-first .result) (after-take-first .take-first .ensures (start .args .year)) _
+    (rowOf (start .args .a)) (start .args .p) (start .pre .0) (omega arith) (after-take-first .take-first .result)
+    (after-take-first .take-first .ensures (start .args .year)) _
     (after-q .q .given .1) in
     let n = first-next (start .args .year) (now (start .args .table)) (now (start .args .elements)) (now (start .args .bytes))
     (rowOf (start .args .a)) (start .args .p) _ w in
@@ -34,7 +35,8 @@ take-items-requires c κs =
     let after-take-first = to-take-first (to-q after-take-laters) in
     let start = to-start after-take-first in
     let w = first-went (start .args .year) (now (start .args .table)) (now (start .args .elements)) (now (start .args .bytes))
-    (rowOf (start .args .a)) (start .args .p) (start .pre .0) (omega arith) (after-take-first .take-first .result) (after-take-first .take-first .ensures (start .args .year)) _
+    (rowOf (start .args .a)) (start .args .p) (start .pre .0) (omega arith) (after-take-first .take-first .result)
+    (after-take-first .take-first .ensures (start .args .year)) _
     (to-q after-take-laters .q .given .1) in
     let n = first-next (start .args .year) (now (start .args .table)) (now (start .args .elements)) (now (start .args .bytes))
     (rowOf (start .args .a)) (start .args .p) _ w in
@@ -70,7 +72,8 @@ returns-2 c =
     let after-take-first = to-take-first (to-q after-take-laters) in
     let start = to-start after-take-first in
     let w = first-went (start .args .year) (now (start .args .table)) (now (start .args .elements)) (now (start .args .bytes))
-    (rowOf (start .args .a)) (start .args .p) (start .pre .0) (omega arith) (after-take-first .take-first .result) (after-take-first .take-first .ensures (start .args .year)) _
+    (rowOf (start .args .a)) (start .args .p) (start .pre .0) (omega arith) (after-take-first .take-first .result)
+    (after-take-first .take-first .ensures (start .args .year)) _
     (to-q after-take-laters .q .given .1) in
     let n = first-next (start .args .year) (now (start .args .table)) (now (start .args .elements)) (now (start .args .bytes))
     (rowOf (start .args .a)) (start .args .p) _ w in
@@ -83,7 +86,8 @@ returns-3 c =
     let after-take-first = c .before .before .before in
     let start = to-start after-take-first in
     first-stop (start .args .year) (now (start .args .table)) (now (start .args .elements)) (now (start .args .bytes)) (rowOf (start .args .a))
-    (start .args .p) (start .pre .0) (omega arith) (after-take-first .take-first .result) (after-take-first .take-first .ensures (start .args .year)) _ (c .before .r2 .given .1)
+    (start .args .p) (start .pre .0) (omega arith) (after-take-first .take-first .result)
+    (after-take-first .take-first .ensures (start .args .year)) _ (c .before .r2 .given .1)
 
 pub take-inside-spec : {M : Type 1} → statement M
 take-inside-spec =

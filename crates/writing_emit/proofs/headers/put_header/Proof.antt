@@ -7,12 +7,13 @@ use Rattle.writing_emit.proofs.headers.put_header.Tie as tie
 returns : tie.Need-returns
 returns c =
     let after-put-counts = c .before .before in
-    let after-put-flags = after-put-counts .before .before .before .before in
-    let after-put-names = after-put-flags .before .before .before .before in
+    let after-put-reference-and-word = after-put-counts .before .before .before .before in
+    let after-put-names = after-put-reference-and-word .before .before .before .before in
     let after-put-lengths = after-put-names .before .before .before .before in
     let start = after-put-lengths .before .before .before .before in
     header-wrote (start .args .table .now) (start .args .at) (start .args .out .now) _ _ _ _ (start .args .w) (start .args .metric)
-    (start .args .semantics) (after-put-lengths .put-lengths .ensures) (after-put-names .put-names .ensures) (after-put-flags .put-flags .ensures)
+    (start .args .semantics) (after-put-lengths .put-lengths .ensures) (after-put-names .put-names .ensures)
+    (after-put-reference-and-word .put-reference-and-word .ensures)
     (after-put-counts .put-counts .ensures)
 
 pub put-header-spec : {M : Type 1} → statement M
