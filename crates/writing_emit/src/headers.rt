@@ -59,7 +59,7 @@ fn put_reference_and_word(table: &[u64], at: usize, out: &mut [u8], w: usize)
     numbers::put_u32(out, w + pieces::WORD, table[at + row::WORD] as u32);
 }
 
-// "Points 65535 is a mark": what stands at +30, by the mark's number and the first count.
+// "Points 65535 is a mark": what stands at +30, by the mark and the first count.
 fn points_of(mark: u64, count: u64) -> u16
     requires { ⌜ Fits Header.points (pointsOf mark count) ⌝ }
     ensures { λ r. ⌜ r ≡ pointsOf mark count ⌝ }

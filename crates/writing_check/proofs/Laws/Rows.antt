@@ -100,10 +100,10 @@ module _ (y : ℕ) (ns es pool : List ℕ) (a : RecordRow) (p : Places) where
   abbrev later : Places → Answer (Taken (List Part))
   later q = answer (upTo y) (many (a .parts - 1) 2 (takePart ref (laterRules marked)) (q .number) (here t q))
 
-  abbrev First : Places → Type 0
+  abbrev pub First : Places → Type 0
   First q = Went first flattenPart (partBytes ref) (FineFirst ref (a .mark) (a .word)) t p q
 
-  abbrev Later : Places → Places → Type 0
+  abbrev pub Later : Places → Places → Type 0
   Later q s =
       Went (later q) (joined flattenPart) (sumBy (subobjectBytes ref)) (λ l. (length l ≡ a .parts - 1) × All (FineSubobject ref marked) l) t q s
 
