@@ -257,6 +257,111 @@ static void texts(void)
     SAME(left, 9, 9, 9, 9);
 }
 
+/* The index of the sheet's one record, and of none. What is lent is longer: what is past the length is as it was. */
+static void one_block(void)
+{
+    static uint8_t index[SXF_BLOCK_SIZE + 1];
+    uint64_t entry[SXF_ENTRY_WIDTH + 1] = { 99, 99, 99, 99 }, pick[SXF_PICK_WIDTH + 1] = { 99, 99, 99, 99 }, none[1] = { 99 };
+    /* its number, one entry: code 9, place 452, localisation 2; then zeros, the sum of the bytes before it, and what was there */
+    static const uint8_t block[SXF_BLOCK_SIZE + 1] = { 0, 0, 1, 0, 9, 0, 0, 0, 0xC4, 0x01, 0, 2, [510] = 0xD1, [SXF_BLOCK_SIZE] = 99 };
+    memset(index, 99, sizeof index);
+    sxf_written built = sxf_index_build(sheet, LENGTH, 2017, index, sizeof index);
+    SAME(built, 0, 0, 0, SXF_BLOCK_SIZE);
+    uint64_t differ = memcmp(index, block, sizeof index) != 0;
+    SAME(differ, 0);
+    sxf_index checked = sxf_index_check(index, SXF_BLOCK_SIZE), empty = sxf_index_check(index, 0);
+    SAME(checked, 0, 0, 0, 1, 1);
+    SAME(empty, 0, 0, 0, 0, 0);
+    /* the same by the names of its fields */
+    uint64_t counts[] = { checked.entries, checked.blocks };
+    SAME(counts, 1, 1);
+    sxf_written read = sxf_index_read(index, SXF_BLOCK_SIZE, entry, SXF_ENTRY_WIDTH + 1), no_entries = sxf_index_read(index, 0, none, 0);
+    SAME(read, 0, 0, 0, SXF_ENTRY_WIDTH);
+    SAME(entry, 9, SXF_RECORDS_AT, 2, 99);
+    SAME(no_entries, 0, 0, 0, 0);
+    sxf_written selected = sxf_index_select(index, SXF_BLOCK_SIZE, 9, pick, SXF_PICK_WIDTH + 1);
+    SAME(selected, 0, 0, 0, SXF_PICK_WIDTH);
+    SAME(pick, 0, SXF_RECORDS_AT, 2, 99);
+    sxf_written no_hit = sxf_index_select(index, SXF_BLOCK_SIZE, 8, none, 0), not_there = sxf_select(sheet, LENGTH, 2017, 8, none, 0);
+    SAME(no_hit, 0, 0, 0, 0);
+    SAME(not_there, 0, 0, 0, 0);
+    SAME(none, 99);
+}
+
+/* One record more than a block holds, none of which has a point. The last has a code of its own, the others 0, 1 and 2 in turn. */
+enum {
+    MANY = SXF_BLOCK_FULL + 1,
+    MANY_TOTAL = 32,
+    MANY_LENGTH = SXF_RECORDS_AT + MANY * MANY_TOTAL,
+    LAST_AT = MANY_LENGTH - MANY_TOTAL,
+    LAST_CODE = 7,
+    BLOCKS = 2 * SXF_BLOCK_SIZE
+};
+
+static uint8_t many[MANY_LENGTH];
+
+static sxf_written written_many(void)
+{
+    static uint64_t rows[MANY][SXF_ROW_WIDTH + SXF_PART_WIDTH];
+    for (size_t i = 0; i < MANY; i++) {
+        rows[i][SXF_ROW_CODE] = i == MANY - 1 ? LAST_CODE : i % 3;
+        rows[i][SXF_ROW_REFERENCE] = i % 2;
+        rows[i][SXF_ROW_PARTS] = 1;
+    }
+    return sxf_write(2017, bytes, 0, bytes, 0, 5, bytes, 0, rest, bytes, 0, carried, rows[0], MANY * (SXF_ROW_WIDTH + SXF_PART_WIDTH), elements, 0,
+                     bytes, 0, many, MANY_LENGTH);
+}
+
+/* Two blocks: both ways of selecting give the same, the first block that is bad is told, and a refusal writes nothing. */
+static void two_blocks(void)
+{
+    static uint8_t index[BLOCKS];
+    static uint64_t entries[MANY * SXF_ENTRY_WIDTH];
+    uint64_t pick[SXF_PICK_WIDTH] = { 99, 99, 99 };
+    sxf_written made = written_many();
+    SAME(made, 0, 0, 0, MANY_LENGTH);
+    uint64_t lengths[] = { SXF_INDEX_LENGTH(0), SXF_INDEX_LENGTH(1), SXF_INDEX_LENGTH(SXF_BLOCK_FULL), SXF_INDEX_LENGTH(MANY) };
+    SAME(lengths, 0, SXF_BLOCK_SIZE, SXF_BLOCK_SIZE, BLOCKS);
+    memset(index, 99, sizeof index);
+    sxf_written small = sxf_index_build(many, MANY_LENGTH, 2017, index, BLOCKS - 1);
+    sxf_written no_year = sxf_index_build(many, MANY_LENGTH, 2018, index, BLOCKS), cut = sxf_index_build(many, MANY_LENGTH - 1, 2017, index, 0);
+    SAME(small, SXF_ROOM, 0, 0, 0);
+    SAME(no_year, SXF_ASK, 0, 0, 0);
+    SAME(cut, SXF_SHORT, LAST_AT, 0, 0);
+    uint64_t left[] = { index[0], index[SXF_BLOCK_SIZE], index[BLOCKS - 1] };
+    SAME(left, 99, 99, 99);
+    sxf_written built = sxf_index_build(many, MANY_LENGTH, 2017, index, BLOCKS);
+    SAME(built, 0, 0, 0, BLOCKS);
+    sxf_index checked = sxf_index_check(index, BLOCKS);
+    SAME(checked, 0, 0, 0, MANY, 2);
+    sxf_written read = sxf_index_read(index, BLOCKS, entries, MANY * SXF_ENTRY_WIDTH);
+    SAME(read, 0, 0, 0, MANY * SXF_ENTRY_WIDTH);
+    same("last entry", entries + (MANY - 1) * SXF_ENTRY_WIDTH, (const uint64_t[]){ LAST_CODE, LAST_AT, 1 }, SXF_ENTRY_WIDTH);
+    sxf_written narrow = sxf_index_read(index, BLOCKS, pick, SXF_PICK_WIDTH), crowd = sxf_index_select(index, BLOCKS, 0, pick, SXF_PICK_WIDTH);
+    sxf_written crowded = sxf_select(many, MANY_LENGTH, 2017, 0, pick, SXF_PICK_WIDTH);
+    sxf_written ask = sxf_select(many, MANY_LENGTH, 2018, LAST_CODE, pick, SXF_PICK_WIDTH);
+    SAME(narrow, SXF_ROOM, 0, 0, 0);
+    SAME(crowd, SXF_ROOM, 0, 0, 0);
+    SAME(crowded, SXF_ROOM, 0, 0, 0);
+    SAME(ask, SXF_ASK, 0, 0, 0);
+    SAME(pick, 99, 99, 99);
+    sxf_written by_index = sxf_index_select(index, BLOCKS, LAST_CODE, pick, SXF_PICK_WIDTH);
+    SAME(by_index, 0, 0, 0, SXF_PICK_WIDTH);
+    SAME(pick, MANY - 1, LAST_AT, 1);
+    memset(pick, 0, sizeof pick);
+    sxf_written by_sheet = sxf_select(many, MANY_LENGTH, 2017, LAST_CODE, pick, SXF_PICK_WIDTH);
+    SAME(by_sheet, 0, 0, 0, SXF_PICK_WIDTH);
+    SAME(pick, MANY - 1, LAST_AT, 1);
+    /* a piece of the second block, and one of the first; then the second with a byte changed, which is told before what has no room */
+    sxf_index piece = sxf_index_check(index, BLOCKS - 1), first_piece = sxf_index_check(index, SXF_BLOCK_SIZE - 1);
+    SAME(piece, SXF_BAD_BLOCK, SXF_BLOCK_SIZE, 0, 0, 0);
+    SAME(first_piece, SXF_BAD_BLOCK, 0, 0, 0, 0);
+    index[BLOCKS - 3] = 1;
+    sxf_written unread = sxf_index_read(index, BLOCKS, pick, 0), unselected = sxf_index_select(index, BLOCKS, LAST_CODE, pick, 0);
+    SAME(unread, SXF_BAD_BLOCK, SXF_BLOCK_SIZE, 0, 0);
+    SAME(unselected, SXF_BAD_BLOCK, SXF_BLOCK_SIZE, 0, 0);
+}
+
 int main(void)
 {
     rest[0] = 3;
@@ -271,6 +376,8 @@ int main(void)
     meanings();
     coordinates();
     texts();
+    one_block();
+    two_blocks();
     printf("calls: %d answers, %d not as stated\n", answers, wrong);
     return wrong != 0;
 }

@@ -4,9 +4,9 @@
  *
  * Answers. Each call takes every value of its arguments and answers one struct by value. number is 0 (SXF_OK) on success. Else it is
  * the number of the refusal, with its place and year, and every other field is 0. The place is a byte of the sheet, from 0, for
- * sxf_write's table an index of the table, and for SXF_NO_CHARACTER an index of the bytes or units that were to be turned; the year is 0
- * except for SXF_TOO_NEW. (sxf_visibility has no refusal; what the place of a refusal counts from where no sheet is lent is said beside
- * the call.)
+ * sxf_write's table an index of the table, for SXF_NO_CHARACTER an index of the bytes or units that were to be turned, and for
+ * SXF_BAD_BLOCK a byte of the code index; the year is 0 except for SXF_TOO_NEW. (sxf_visibility has no refusal; what the place of a
+ * refusal counts from where no sheet is lent is said beside the call.)
  *
  * Years. A sheet is read or written for a year, one of 1999, 2004, 2006, 2008, 2012, 2014, 2015, 2016 and 2017: what came later is
  * refused as SXF_TOO_NEW. Any other year is refused first of all, as SXF_ASK at place 0.
@@ -15,10 +15,10 @@
  * pointer is not const, read and written, and nothing else writes to them before the call returns. No pointer is null, one of length 0
  * neither: give the address of any object. A pointer to uint64_t or uint16_t is aligned as one.
  *
- * What is written. Only table, elements and bytes of sxf_unfold, out of sxf_write, units of sxf_to_utf16 and text of sxf_from_utf16 are
- * written to. None of these may overlap another argument of the same call. A refusal leaves them as they were; success writes only the
- * lengths that the answer states, from the start of each. Nothing is kept after a call, nothing is allocated, and calls in several threads
- * do not disturb one another.
+ * What is written. Only table, elements and bytes of sxf_unfold, out of sxf_write, units of sxf_to_utf16, text of sxf_from_utf16, index of
+ * sxf_index_build, entries of sxf_index_read and picks of sxf_index_select and sxf_select are written to. None of these may overlap
+ * another argument of the same call. A refusal leaves them as they were; success writes only the lengths that the answer states, from the
+ * start of each. Nothing is kept after a call, nothing is allocated, and calls in several threads do not disturb one another.
  */
 #ifndef SXF_H
 #define SXF_H
@@ -67,7 +67,8 @@ enum {
     SXF_ROOM = 15,        /* a lent output is too small; sxf_unfold: place 1 table, 2 elements, 3 bytes; else place 0 */
     SXF_ASK = 16,         /* the year is none of the nine, the record's number is not below the count, a point has no such dimension, or
                              there is no such coding; place 0 */
-    SXF_NO_CHARACTER = 17 /* a byte has no character, or a 16-bit unit has no byte, in the coding; the place is its index */
+    SXF_NO_CHARACTER = 17, /* a byte has no character, or a 16-bit unit has no byte, in the coding; the place is its index */
+    SXF_BAD_BLOCK = 18     /* a block of a code index has a wrong length, number, count, filling or sum; the place is the block's first byte */
 };
 
 /* Places in a sheet. Each text starts at its place and has the length that sxf_head_of answers. The carried bytes are the rest of the
@@ -235,7 +236,7 @@ typedef struct {
    SXF_SEMANTIC at place 3 of the item, and a type that is none of these, SXF_SEMANTIC at 2. */
 sxf_value sxf_value_of(uint8_t kind, uint8_t scale, uint64_t bits);
 
-/* How much of the output was written: bytes of a sheet or of a text, or 16-bit units. */
+/* How much of the output was written: bytes of a sheet, of a text or of a code index, 16-bit units, or 64-bit numbers, three an entry or pick. */
 typedef struct {
     uint64_t number, place, year, length;
 } sxf_written;
@@ -279,6 +280,68 @@ sxf_written sxf_to_utf16(uint32_t coding, const uint8_t *text, size_t text_len, 
 
 sxf_written sxf_from_utf16(uint32_t coding, const uint16_t *units, size_t units_len, uint8_t *text, size_t text_len);
 
+/*
+ * A code index: a file beside the sheet that has, for each record in order, its class code, its place in the sheet (the byte at which it
+ * starts) and its localisation. It is made of blocks of SXF_BLOCK_SIZE bytes: the block's number, from 0 (2 bytes), its count of entries (2),
+ * 63 entries of code (4), place (3) and localisation (1), those that are not used zero, two zero bytes, and the sum of the 510 bytes before it
+ * modulo 65536 (2), each lowest byte first. Every block but the last has SXF_BLOCK_FULL entries, the last has 1 at least, and a sheet without
+ * records has no block.
+ *
+ * An index does not say which sheet it belongs to, and no call can tell. The index of another sheet, or of this one before it was changed,
+ * gives that sheet's records; and one that is cut at the end of a full block is an index too. Compare sxf_index_check's entries with
+ * sxf_check's records; to be sure, build it again and compare the bytes.
+ */
+enum {
+    SXF_BLOCK_SIZE = 512,
+    SXF_BLOCK_FULL = 63
+};
+
+/* How long the index of so many records is, as a uint64_t; for counts below 2^32. SXF_INDEX_LENGTH(SXF_LIMIT / 32), 4,261,376 bytes, is always
+   enough. */
+#define SXF_INDEX_LENGTH(records) (((uint64_t)(records) + (SXF_BLOCK_FULL - 1)) / SXF_BLOCK_FULL * SXF_BLOCK_SIZE)
+
+/* The three numbers that sxf_index_read gives for each entry; those that sxf_index_select and sxf_select give for each hit. */
+enum {
+    SXF_ENTRY_CODE = 0,
+    SXF_ENTRY_PLACE = 1,
+    SXF_ENTRY_LOCALISATION = 2,
+    SXF_ENTRY_WIDTH = 3,
+    SXF_PICK_RECORD = 0,
+    SXF_PICK_PLACE = 1,
+    SXF_PICK_LOCALISATION = 2,
+    SXF_PICK_WIDTH = 3
+};
+
+/* Builds the index of a sheet. Refused are, in this order, what sxf_check refuses, and an output shorter than SXF_INDEX_LENGTH of the
+   sheet's records, SXF_ROOM. */
+sxf_written sxf_index_build(const uint8_t *sheet, size_t sheet_len, uint32_t year, uint8_t *index, size_t index_len);
+
+/* What an index has: its entries, and the blocks in which they stand. */
+typedef struct {
+    uint64_t number, place, year, entries, blocks;
+} sxf_index;
+
+/* Checks an index. The first bad block is SXF_BAD_BLOCK. A piece of a block at the end is a bad block, and the block before it is then not the
+   last, and so bad itself unless it is full. A block whose number does not fit two bytes is bad. What entries hold is not judged. */
+sxf_index sxf_index_check(const uint8_t *index, size_t index_len);
+
+/* Reads the entries of an index, SXF_ENTRY_WIDTH numbers each: class code, place, localisation. length is so many times the entries. Refused
+   are what sxf_index_check refuses, and then a shorter output, SXF_ROOM. */
+sxf_written sxf_index_read(const uint8_t *index, size_t index_len, uint64_t *entries, size_t entries_len);
+
+/*
+ * Selects the records of a class code, SXF_PICK_WIDTH numbers each, in record order: the record's number, from 0, its place, its localisation.
+ * length is how many numbers were written, 0 where no record has the code. Three for each entry of the index, or for each record of the sheet,
+ * are always enough, and with so many the hits are not counted first; a shorter output than the hits need is SXF_ROOM, after every other
+ * refusal.
+ *
+ * sxf_index_select asks an index, and first refuses what sxf_index_check refuses. sxf_select reads the sheet, and first refuses what sxf_check
+ * refuses. For the index that sxf_index_build made of that very sheet both answer the same.
+ */
+sxf_written sxf_index_select(const uint8_t *index, size_t index_len, uint32_t code, uint64_t *picks, size_t picks_len);
+
+sxf_written sxf_select(const uint8_t *sheet, size_t sheet_len, uint32_t year, uint32_t code, uint64_t *picks, size_t picks_len);
+
 #ifdef __cplusplus
 }
 #endif
@@ -300,6 +363,7 @@ SXF_SIZE(sxf_corners, 12);
 SXF_SIZE(sxf_visibility, 3);
 SXF_SIZE(sxf_value, 7);
 SXF_SIZE(sxf_written, 4);
+SXF_SIZE(sxf_index, 5);
 SXF_SIZE(size_t, 1);
 #undef SXF_SIZE
 

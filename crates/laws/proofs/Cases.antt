@@ -4,3 +4,4 @@ pub mod Reading
 pub mod Writing
 pub mod Answers
 pub mod Shores
+pub mod Index

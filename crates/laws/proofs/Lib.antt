@@ -5,6 +5,7 @@ pub mod Newest
 pub mod Again
 pub mod Bounds
 pub mod Codings
+pub mod Index
 pub mod Marked
 pub mod Cases
 pub mod Samples

@@ -6,6 +6,8 @@ pub mod Descriptor
 pub mod Header
 pub mod Subobject
 pub mod Item
+pub mod Entry
+pub mod Block
 
 -- "A sheet is at most 16,777,216 bytes" (01, What the base holds)
 abbrev pub limit : ℕ

@@ -26,4 +26,5 @@ pub mod Layout
 pub mod Writing
 pub mod Answers
 pub mod Codings
+pub mod Index
 pub mod Computing

@@ -69,3 +69,7 @@ ASK = 16
 -- a byte has no character, or a 16-bit unit no byte (02, request 1)
 abbrev pub NO-CHARACTER : ℕ
 NO-CHARACTER = 17
+
+-- "18 BAD BLOCK with the block's place, for a wrong length, number, count, filling or sum, blocks in order" (02, request 3)
+abbrev pub BAD-BLOCK : ℕ
+BAD-BLOCK = 18

@@ -1,6 +1,7 @@
 // What the library answers: the types of its answers, and beside them (specs/) the definitions of documents 01 and 02 that say
 // which answer is given when. Nothing here runs, and nothing is relied on. The contracts of the crates above say what they mean by these definitions.
 
+pub mod block;
 pub mod bounds;
 pub mod carried;
 pub mod codings;
@@ -18,8 +19,8 @@ pub mod structs;
 pub mod subobject;
 pub mod years;
 
-// One named refusal: the documents' number, the place (a byte of the sheet, or an index of the table or the text), and the year, which
-// is 0 except for TOO NEW.
+// One named refusal: the documents' number, the place (a byte of the sheet or of the index file, or an index of the table or the text), and
+// the year, which is 0 except for TOO NEW.
 pub struct Refusal {
     pub number: u32,
     pub place: usize,
@@ -78,7 +79,27 @@ pub enum Headed {
     Refused(Refusal),
 }
 
-// What writing a sheet or turning a text answers: how much of the lent slice, from its start, was written.
+// What a code index has of a record: its class code, its place in the sheet, its localisation.
+pub struct Entry {
+    pub code: u32,
+    pub place: usize,
+    pub localisation: u8,
+}
+
+// What an index has: its entries, and the blocks in which they stand.
+pub struct IndexSizes {
+    pub entries: usize,
+    pub blocks: usize,
+}
+
+// What checking an index answers.
+pub enum Indexed {
+    Accepted(IndexSizes),
+    Refused(Refusal),
+}
+
+// What each call answers that writes one slice (a sheet, a text that is turned, an index, a selection): how much of it, from its start, was
+// written.
 pub enum Written {
     Length(usize),
     Refused(Refusal),

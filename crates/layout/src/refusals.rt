@@ -32,3 +32,5 @@ pub const ROOM: u32 = 15;
 pub const ASK: u32 = 16;
 
 pub const NO_CHARACTER: u32 = 17;
+
+pub const BAD_BLOCK: u32 = 18;

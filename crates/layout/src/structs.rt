@@ -16,13 +16,23 @@ pub struct SxfChecked {
     pub bytes: u64,
 }
 
-// number 0: written, so many bytes or 16-bit units. Otherwise the refusal, and the length is 0.
+// number 0: written, so many bytes, 16-bit units or numbers. Otherwise the refusal, and the length is 0.
 #[repr(C)]
 pub struct SxfWritten {
     pub number: u64,
     pub place: u64,
     pub year: u64,
     pub length: u64,
+}
+
+// number 0: an index of so many entries, in so many blocks. Otherwise the refusal, and the rest is 0.
+#[repr(C)]
+pub struct SxfIndex {
+    pub number: u64,
+    pub place: u64,
+    pub year: u64,
+    pub entries: u64,
+    pub blocks: u64,
 }
 
 // number 0: the record that starts at `at`. Otherwise the refusal, and the rest is 0.

@@ -12,11 +12,27 @@ use Rattle.codings.proofs.utf16.from_utf16.Kinds as from-utf16-kinds
 use Rattle.codings.proofs.utf16.from_utf16.Reads as from-utf16
 use Rattle.codings.proofs.utf16.to_utf16.Kinds as to-utf16-kinds
 use Rattle.codings.proofs.utf16.to_utf16.Reads as to-utf16
-use Rattle.layout.specs.Answers.Calls.{reading, roomy, unfolded, asked, written, lent}
+use Rattle.index.proofs.files.check.Kinds as index-check-kinds
+use Rattle.index.proofs.files.check.Reads as index-check
+use Rattle.index.proofs.files.read.Kinds as index-read-kinds
+use Rattle.index.proofs.files.read.Reads as index-read
+use Rattle.index.proofs.files.select.Kinds as index-select-kinds
+use Rattle.index.proofs.files.select.Reads as index-select
+use Rattle.index.proofs.sheets.build.Kinds as build-kinds
+use Rattle.index.proofs.sheets.build.Reads as build-index
+use Rattle.index.proofs.sheets.build_by_year.Kinds as build-by-year-kinds
+use Rattle.index.proofs.sheets.build_by_year.Reads as build-by-year
+use Rattle.index.proofs.sheets.select.Kinds as select-kinds
+use Rattle.index.proofs.sheets.select.Reads as select-sheet
+use Rattle.index.proofs.sheets.select_by_year.Kinds as select-by-year-kinds
+use Rattle.index.proofs.sheets.select_by_year.Reads as select-by-year
+use Rattle.layout.specs.Answers.Calls.{reading, roomy, unfolded, asked, written, roomed, lent}
 use Rattle.layout.specs.Answers.Coordinates.{measureOf}
-use Rattle.layout.specs.Answers.Enums.{checkedOf, foundOf, headedOf, unitIn, cornersIn, writtenOf}
-use Rattle.layout.specs.Answers.Lent.{headOf, rooms, theNumbers, theElements, theBytes, theSheet, theTurned}
+use Rattle.layout.specs.Answers.Enums.{checkedOf, foundOf, headedOf, unitIn, cornersIn, writtenOf, indexedOf}
+use Rattle.layout.specs.Answers.Lent.{headOf, rooms, theNumbers, theElements, theBytes, theSheet, theTurned, theGiven}
 use Rattle.layout.specs.Codings.Turning.{toUtf16, fromUtf16}
+use Rattle.layout.specs.Index.Reading.{entriesIn}
+use Rattle.layout.specs.Index.Selecting.{indexOf, selected, picked, entryRows}
 use Rattle.layout.specs.Sheet.{Head, Table}
 use Rattle.layout.specs.Walk.{Answer}
 use Rattle.layout.specs.Writing.Tables.{table}
@@ -25,6 +41,7 @@ use Rattle.layout.specs.declared.Corners.{Corners}
 use Rattle.layout.specs.declared.Dimension.{Dimension}
 use Rattle.layout.specs.declared.Found.{Found}
 use Rattle.layout.specs.declared.Headed.{Headed}
+use Rattle.layout.specs.declared.Indexed.{Indexed}
 use Rattle.layout.specs.declared.UnitAnswer.{UnitAnswer}
 use Rattle.layout.specs.declared.Written.{Written}
 use Rattle.meanings.proofs.coordinates.coordinate_of.Kinds as coordinate-kinds
@@ -171,3 +188,38 @@ to-utf16-says κs a x e p = p
 pub from-utf16-says : Says from-utf16-kinds.ps from-utf16-kinds.r from-utf16.Post
     (λ κs a x e. Turns fromUtf16 (a .0) (now (a .1 .0)) (now (a .1 .1 .0)) (now (e .1 .1 .0)) x)
 from-utf16-says κs a x e p = p
+
+-- `check` of an index
+abbrev pub ChecksIndex : List ℕ → Indexed → Type 0
+ChecksIndex xs r = r ≡ indexedOf (entriesIn xs)
+
+pub index-check-says : Says index-check-kinds.ps index-check-kinds.r index-check.Post (λ κs a x e. ChecksIndex (now (a .0)) x)
+index-check-says κs a x e p = p
+
+-- `build`, `read` and `select` of an index, and `select` from a sheet, into a slice that held o and then holds out; w is what the call's definition gives
+abbrev pub Gives : Answer (List ℕ) → (o out : List ℕ) → Written → Type 0
+Gives w o out r = (r ≡ writtenOf (roomed (length o) w)) × (out ≡ lent theGiven (roomed (length o) w) o)
+
+pub build-says : Says build-kinds.ps build-kinds.r build-index.Post
+    (λ κs a x e. Gives (indexOf (a .1 .0 .year) (now (a .0))) (now (a .1 .1 .0)) (now (e .1 .1 .0)) x)
+build-says κs a x e p = p
+
+pub build-by-year-says : Says build-by-year-kinds.ps build-by-year-kinds.r build-by-year.Post
+    (λ κs a x e. Gives (indexOf (a .1 .0) (now (a .0))) (now (a .1 .1 .0)) (now (e .1 .1 .0)) x)
+build-by-year-says κs a x e p = p
+
+pub index-read-says : Says index-read-kinds.ps index-read-kinds.r index-read.Post
+    (λ κs a x e. Gives (entryRows (now (a .0))) (now (a .1 .0)) (now (e .1 .0)) x)
+index-read-says κs a x e p = p
+
+pub index-select-says : Says index-select-kinds.ps index-select-kinds.r index-select.Post
+    (λ κs a x e. Gives (selected (a .1 .0) (now (a .0))) (now (a .1 .1 .0)) (now (e .1 .1 .0)) x)
+index-select-says κs a x e p = p
+
+pub select-says : Says select-kinds.ps select-kinds.r select-sheet.Post
+    (λ κs a x e. Gives (picked (a .1 .0 .year) (now (a .0)) (a .1 .1 .0)) (now (a .1 .1 .1 .0)) (now (e .1 .1 .1 .0)) x)
+select-says κs a x e p = p
+
+pub select-by-year-says : Says select-by-year-kinds.ps select-by-year-kinds.r select-by-year.Post
+    (λ κs a x e. Gives (picked (a .1 .0) (now (a .0)) (a .1 .1 .0)) (now (a .1 .1 .1 .0)) (now (e .1 .1 .1 .0)) x)
+select-by-year-says κs a x e p = p

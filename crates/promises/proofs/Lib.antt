@@ -10,5 +10,6 @@ pub mod Stored
 pub mod Elements
 pub mod Codings
 pub mod Heads
+pub mod Index
 pub mod Rooms
 pub mod Trips

@@ -18,6 +18,16 @@ use Rattle.sxf.proofs.values.sxf_visibility_of.Kinds as visibility-of-k
 use Rattle.sxf.proofs.values.sxf_visibility_of.Reads as visibility-of
 use Rattle.sxf.proofs.version.sxf_version.Kinds as version-kinds
 use Rattle.sxf.proofs.version.sxf_version.Reads as version
+use Rattle.sxf.proofs.indexes.sxf_index_build.Kinds as index-build-kinds
+use Rattle.sxf.proofs.indexes.sxf_index_build.Reads as index-build
+use Rattle.sxf.proofs.indexes.sxf_index_check.Kinds as index-check-kinds
+use Rattle.sxf.proofs.indexes.sxf_index_check.Reads as index-check
+use Rattle.sxf.proofs.indexes.sxf_index_read.Kinds as index-read-kinds
+use Rattle.sxf.proofs.indexes.sxf_index_read.Reads as index-read
+use Rattle.sxf.proofs.indexes.sxf_index_select.Kinds as index-select-kinds
+use Rattle.sxf.proofs.indexes.sxf_index_select.Reads as index-select
+use Rattle.sxf.proofs.indexes.sxf_select.Kinds as select-kinds
+use Rattle.sxf.proofs.indexes.sxf_select.Reads as select-sheet
 use Rattle.sxf.proofs.records.sxf_record_at.Kinds as record-at-kinds
 use Rattle.sxf.proofs.records.sxf_record_at.Reads as record-at
 use Rattle.sxf.proofs.sheets.sxf_check.Kinds as check-kinds
@@ -84,6 +94,29 @@ pub once-sxf-from-utf16 : (κs : Lfts 2) (a : Dens κs from-kinds.ps) (x y : res
     (e f : AtExit (endedOf 2 from-kinds.ps from-kinds.r) κs)
     → from-utf16.Post κs a x e → from-utf16.Post κs a y f → (x ≡ y) × (now (e .1 .1 .0) ≡ now (f .1 .1 .0))
 once-sxf-from-utf16 κs a x y e f p q = (p .0 ∙ sym (q .0), p .1 ∙ sym (q .1))
+
+pub once-sxf-index-build : (κs : Lfts 2) (a : Dens κs index-build-kinds.ps) (x y : resT index-build-kinds.r κs .Denot)
+    (e f : AtExit (endedOf 2 index-build-kinds.ps index-build-kinds.r) κs)
+    → index-build.Post κs a x e → index-build.Post κs a y f → (x ≡ y) × (now (e .1 .1 .0) ≡ now (f .1 .1 .0))
+once-sxf-index-build κs a x y e f p q = (p .0 ∙ sym (q .0), p .1 ∙ sym (q .1))
+
+pub once-sxf-index-check : Once index-check-kinds.ps index-check-kinds.r index-check.Post
+once-sxf-index-check κs a x y e f p q = p ∙ sym q
+
+pub once-sxf-index-read : (κs : Lfts 2) (a : Dens κs index-read-kinds.ps) (x y : resT index-read-kinds.r κs .Denot)
+    (e f : AtExit (endedOf 2 index-read-kinds.ps index-read-kinds.r) κs)
+    → index-read.Post κs a x e → index-read.Post κs a y f → (x ≡ y) × (now (e .1 .0) ≡ now (f .1 .0))
+once-sxf-index-read κs a x y e f p q = (p .0 ∙ sym (q .0), p .1 ∙ sym (q .1))
+
+pub once-sxf-index-select : (κs : Lfts 2) (a : Dens κs index-select-kinds.ps) (x y : resT index-select-kinds.r κs .Denot)
+    (e f : AtExit (endedOf 2 index-select-kinds.ps index-select-kinds.r) κs)
+    → index-select.Post κs a x e → index-select.Post κs a y f → (x ≡ y) × (now (e .1 .1 .0) ≡ now (f .1 .1 .0))
+once-sxf-index-select κs a x y e f p q = (p .0 ∙ sym (q .0), p .1 ∙ sym (q .1))
+
+pub once-sxf-select : (κs : Lfts 2) (a : Dens κs select-kinds.ps) (x y : resT select-kinds.r κs .Denot)
+    (e f : AtExit (endedOf 2 select-kinds.ps select-kinds.r) κs)
+    → select-sheet.Post κs a x e → select-sheet.Post κs a y f → (x ≡ y) × (now (e .1 .1 .1 .0) ≡ now (f .1 .1 .1 .0))
+once-sxf-select κs a x y e f p q = (p .0 ∙ sym (q .0), p .1 ∙ sym (q .1))
 
 pub once-sxf-version : Once version-kinds.ps version-kinds.r version.Post
 once-sxf-version κs a x y e f p q = p ∙ sym q

@@ -1,4 +1,4 @@
-// How much was written, or the refusal, as C has it: of a sheet, and of a text that is turned.
+// How much was written, or the refusal, as C has it: of a sheet, a text that is turned, an index, or a selection.
 ghost use mathlib.Core.Path.{_≡_};
 ghost use Rattle.layout.specs.Answers.Structs.{writtenRow};
 use layout::Written;

@@ -2,13 +2,15 @@
 //! and the rounds of the four go in turn, so that a slow spell of the machine meets all of them. All memory is touched before.
 //!
 //! `measure texts` times texts that are turned to UTF-16 and back instead, beside glibc's `iconv`, and `measure texts --each` holds each byte
-//! and each unit against it.
+//! and each unit against it. `measure index` times a code index, and selections through it and without it.
 #![deny(unsafe_code)]
 
 mod each;
 // The one module that may: it calls glibc.
 #[allow(unsafe_code)]
 mod iconv;
+mod index;
+mod random;
 mod sheets;
 mod texts;
 
@@ -91,9 +93,10 @@ fn main() -> ExitCode {
     match words.iter().map(String::as_str).collect::<Vec<_>>()[..] {
         [] => time_sheets(),
         ["texts"] => texts::time(),
+        ["index"] => index::time(),
         ["texts", "--each"] => return ExitCode::from(u8::from(!each::hold())),
         _ => {
-            eprintln!("nothing, texts or texts --each");
+            eprintln!("nothing, texts, texts --each or index");
             return ExitCode::from(2);
         }
     }

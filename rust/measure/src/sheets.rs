@@ -1,4 +1,5 @@
 //! Sheets as long as the limit allows, made of records of one kind.
+use crate::random::Random;
 use sxf::fields::{descriptor, header, passport, Field, START};
 use sxf::{Reference, LIMIT};
 
@@ -34,26 +35,29 @@ fn head() -> Vec<u8> {
     sheet
 }
 
-/// As many records of so many points as the limit has room for. The elements are pseudo-random bytes.
+/// As many records of so many points, all of code 0, as the limit has room for. The elements are pseudo-random bytes.
 pub fn make(kind: &Kind, points: usize) -> Vec<u8> {
+    make_coded(kind, points, || 0)
+}
+
+/// The same, with a code for each record in turn.
+pub fn make_coded(kind: &Kind, points: usize, mut code: impl FnMut() -> u32) -> Vec<u8> {
     let metric = points * kind.reference.point_size();
     let total = header::SIZE + metric;
     let records = (LIMIT - START) / total;
     let mut sheet = head();
     put(&mut sheet, descriptor::COUNT, records as u32);
-    let mut state = 1u64;
+    let mut random = Random(1);
     for _ in 0..records {
         let mut bytes = [0; header::SIZE];
         put(&mut bytes, header::IDENTIFIER, header::IDENTIFIER_IS);
         put(&mut bytes, header::TOTAL, total as u32);
         put(&mut bytes, header::METRIC, metric as u32);
+        put(&mut bytes, header::CODE, code());
         put(&mut bytes, header::REFERENCE, kind.reference.0);
         put(&mut bytes, header::POINTS, points as u32);
         sheet.extend_from_slice(&bytes);
-        for _ in 0..metric {
-            state = state.wrapping_mul(6_364_136_223_846_793_005).wrapping_add(1_442_695_040_888_963_407);
-            sheet.push((state >> 56) as u8);
-        }
+        sheet.extend((0..metric).map(|_| random.byte()));
     }
     let sum = sheet.iter().map(|&b| u32::from(b)).sum();
     put(&mut sheet, passport::SUM, sum);

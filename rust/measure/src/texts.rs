@@ -4,8 +4,10 @@
 //!     rt staticlib sxf && cargo run --release --manifest-path rust/Cargo.toml -p measure -- texts
 use crate::iconv::Iconv;
 use crate::milliseconds;
+use crate::random::Random;
 use std::ffi::CStr;
 use std::hint::black_box;
+use std::ops::RangeInclusive;
 use sxf_sys::codings::{DOS, KOI8, WINDOWS};
 use sxf_sys::lent::{from_utf16, to_utf16};
 
@@ -42,19 +44,10 @@ impl Coding {
     }
 }
 
-/// Pseudo-random numbers.
-struct Random(u64);
-
-impl Random {
-    fn below(&mut self, limit: u64) -> u64 {
-        self.0 = self.0.wrapping_mul(6_364_136_223_846_793_005).wrapping_add(1_442_695_040_888_963_407);
-        (self.0 >> 33) % limit
-    }
-
-    fn from(&mut self, letters: std::ops::RangeInclusive<char>) -> u16 {
-        let (first, last) = (u64::from(*letters.start()), u64::from(*letters.end()));
-        (first + self.below(last - first + 1)) as u16
-    }
+/// One of these letters.
+fn letter(random: &mut Random, letters: RangeInclusive<char>) -> u16 {
+    let (first, last) = (u64::from(*letters.start()), u64::from(*letters.end()));
+    (first + random.below(last - first + 1)) as u16
 }
 
 /// Words of Russian letters, of which one in eight is in capitals and three in eight begin with one, and numbers, with spaces between them.
@@ -63,12 +56,12 @@ fn draw() -> Vec<u16> {
     let mut units = Vec::with_capacity(LENGTH);
     while units.len() < LENGTH {
         let kind = random.below(10);
-        for letter in 0..=random.below(12) {
+        for place in 0..=random.below(12) {
             units.push(match kind {
-                0 | 1 => random.from('0'..='9'),
-                2 => random.from('А'..='Я'),
-                3..=5 if letter == 0 => random.from('А'..='Я'),
-                _ => random.from('а'..='я'),
+                0 | 1 => letter(&mut random, '0'..='9'),
+                2 => letter(&mut random, 'А'..='Я'),
+                3..=5 if place == 0 => letter(&mut random, 'А'..='Я'),
+                _ => letter(&mut random, 'а'..='я'),
             });
         }
         units.push(u16::from(b' '));

@@ -1,12 +1,13 @@
 //! The refusals: their numbers, and the ways to give one.
 
-/// Why a sheet, a table, a text or a question is refused.
+/// Why a sheet, a table, a text, an index or a question is refused.
 #[derive(Clone, Copy, PartialEq, Eq, Debug)]
 pub struct Refusal {
-    /// The documents' number of the refusal, 1 to 17.
+    /// The documents' number of the refusal, 1 to 18.
     pub number: u64,
     /// A byte offset in the sheet or, of the writer's table, a number's index;
-    /// of a text, the index of a byte or of a 16-bit unit.
+    /// of a text, the index of a byte or of a 16-bit unit; of a code index, a
+    /// byte offset in it.
     pub place: u64,
     /// The year of the feature for TOO NEW, else 0.
     pub year: u64,
@@ -49,6 +50,9 @@ impl Refusal {
     /// A byte without a character in its coding, or a 16-bit unit without a
     /// byte (document 02, request 1).
     pub const NO_CHARACTER: u64 = 17;
+    /// A block of a code index with a wrong length, number, count, filling or
+    /// sum (document 02, request 3).
+    pub const BAD_BLOCK: u64 = 18;
 
     /// A refusal with no year.
     pub(crate) fn new(number: u64, place: u64) -> Refusal {

@@ -90,7 +90,7 @@ impl Listener for Wanted {
 }
 
 /// Setting, head, each record, then LEFT OVER ("The refusals", order).
-fn read_sheet<L: Listener>(sheet: &[u8], year: u32, listener: &mut L) -> Result<(Setting, Opening), Refusal> {
+pub(crate) fn read_sheet<L: Listener>(sheet: &[u8], year: u32, listener: &mut L) -> Result<(Setting, Opening), Refusal> {
     let setting = Setting::new(year)?;
     let opening = read_head(sheet, setting)?;
     read_records(sheet, setting, opening.records, listener)?;

@@ -83,6 +83,43 @@ pub enum Command {
         /// The sheet
         file: PathBuf,
     },
+    /// Write a code index of a sheet, for `sxf select`
+    ///
+    /// The index has the class code, the place and the localisation of each record, 63 to a block of 512 bytes; that of a sheet without records
+    /// is empty. It does not say which sheet it belongs to, and its format cannot tell: keep it beside its sheet, and build it again after each
+    /// change. `sxf index FILE -o - | cmp - INDEX` tells whether it is that of the sheet as it stands. The file is written whole or not at all, and
+    /// never over the sheet.
+    Index {
+        /// The sheet
+        file: PathBuf,
+        /// The index to write, or - for standard output
+        #[arg(short, long, value_name = "INDEX")]
+        output: PathBuf,
+        /// Replace a file that is there, if it has write permission
+        #[arg(long)]
+        force: bool,
+        #[command(flatten)]
+        at: AtYear,
+    },
+    /// List the records of a class code, by the sheet or by its index
+    ///
+    /// The first line is that of `sxf list`, with the count of all records; then comes, as there, a line for each record of the code. With
+    /// --index they are those that the index has; the sheet is checked all the same. An index does not say which sheet it belongs to, and its
+    /// format cannot tell: keep it beside its sheet, and build it again after each change. It is noticed, and nothing listed, where the index has not
+    /// as many entries as the sheet has records, or has under the code a record that is not the sheet's by number, place, code and localisation.
+    /// It is not noticed where the index has a record of the code under another one: that record is missing then.
+    Select {
+        /// The sheet
+        file: PathBuf,
+        /// The class code
+        #[arg(long, value_name = "N", value_parser = class_code)]
+        code: u32,
+        /// Look the records up in this index, which `sxf index` built from this very sheet; it may be - for standard input
+        #[arg(long, value_name = "INDEX")]
+        index: Option<PathBuf>,
+        #[command(flatten)]
+        at: AtYear,
+    },
 }
 
 #[derive(Args)]
@@ -104,6 +141,10 @@ fn setting(year: &str) -> Result<Setting, String> {
 
 fn record_number(number: &str) -> Result<usize, String> {
     number.parse().map_err(|_| "not the number of a record; they are counted from 0".to_string())
+}
+
+fn class_code(number: &str) -> Result<u32, String> {
+    number.parse().map_err(|_| format!("not a class code; they are whole numbers, 0 to {}", u32::MAX))
 }
 
 /// What the command line asks for.

@@ -1,4 +1,5 @@
-//! The command `sxf`: sheets of SXF 4.0 are checked, listed, shown, unfolded to JSON lines and written from them.
+//! The command `sxf`: sheets of SXF 4.0 are checked, listed, shown, unfolded to JSON lines and written from them, and their records selected by
+//! code, through an index or without one.
 //!
 //! What is accepted and refused is the proved library's answer; this program reads the files and prints what is answered. Exit status:
 //! 0 accepted or done, 1 refused, 2 usage, input or output.
@@ -11,6 +12,7 @@ mod escapes;
 mod failure;
 mod head;
 mod hex;
+mod index;
 mod input;
 mod json;
 mod lines;
@@ -20,6 +22,7 @@ mod output;
 mod points;
 mod quoted;
 mod records;
+mod select;
 mod show;
 mod standard;
 mod table;
@@ -49,6 +52,8 @@ fn done(command: &Command, out: &mut dyn Write) -> Result<(), Failure> {
         Command::Table { file, bytes, at } => table::run(file, *bytes, at.year, out),
         Command::Write { json, output: file, force, at } => write::run(json, &Target { file, force: *force }, at.year, out),
         Command::Years { file } => years::run(file, out),
+        Command::Index { file, output, force, at } => index::run(file, &Target { file: output, force: *force }, at.year, out),
+        Command::Select { file, code, index, at } => select::run(file, *code, index.as_deref(), at.year, out),
     }
 }
 

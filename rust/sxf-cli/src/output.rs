@@ -1,4 +1,4 @@
-//! A sheet is written to a file, whole or not at all, or to standard output.
+//! A sheet or an index is written to a file, whole or not at all, or to standard output.
 use crate::failure::Failure;
 use std::fs::{self, File, FileType, Metadata, OpenOptions, Permissions};
 use std::io::{self, Write};
@@ -6,16 +6,16 @@ use std::os::unix::fs::{fchown, FileTypeExt, MetadataExt, PermissionsExt};
 use std::path::{Path, PathBuf};
 use std::process;
 
-/// Where a sheet goes: a file, or standard output for `-`. A file that is there is replaced only by `force`.
+/// Where it goes: a file, or standard output for `-`. A file that is there is replaced only by `force`.
 pub struct Target<'a> {
     pub file: &'a Path,
     pub force: bool,
 }
 
-pub fn sheet(target: &Target<'_>, bytes: &[u8], out: &mut dyn Write) -> Result<(), Failure> {
+pub fn whole(target: &Target<'_>, bytes: &[u8], out: &mut dyn Write) -> Result<(), Failure> {
     let file = target.file;
     if file == Path::new("-") {
-        // Also a reader that goes is a failure here: the sheet is not whole.
+        // Also a reader that goes is a failure here: what it has is not whole.
         return out.write_all(bytes).and_then(|()| out.flush()).map_err(Failure::standard_output);
     }
     written(target, bytes).map_err(|error| Failure::trouble(file, format!("cannot be written: {error}")))
@@ -39,7 +39,7 @@ fn written(target: &Target<'_>, bytes: &[u8]) -> io::Result<()> {
     Ok(())
 }
 
-/// The file to put in place, behind links, and what is known of it if it is there. What is there and is no file is not put away for a sheet.
+/// The file to put in place, behind links, and what is known of it if it is there. What is there and is no file is not put away.
 fn behind_links(file: &Path) -> io::Result<(PathBuf, Option<Metadata>)> {
     match fs::metadata(file) {
         Ok(found) if found.is_file() => Ok((writable(file, &found)?, Some(found))),
@@ -94,7 +94,7 @@ fn name(temporary: &Path, file: &Path, force: bool) -> io::Result<()> {
 fn fill(mut file: File, bytes: &[u8], replaced: Option<Metadata>) -> io::Result<()> {
     if let Some(found) = replaced {
         let _ = fchown(&file, Some(found.uid()), Some(found.gid()));
-        // A sheet is no program, so no bit stays that a program has beside its permissions.
+        // It is no program, so no bit stays that a program has beside its permissions.
         file.set_permissions(Permissions::from_mode(found.mode() & 0o777))?;
     }
     file.write_all(bytes)?;

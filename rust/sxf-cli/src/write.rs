@@ -20,7 +20,7 @@ pub fn run(json: &Path, target: &Target<'_>, setting: Setting, out: &mut dyn Wri
     let head = head.lend();
     let sheet =
         sxf::write(&head, records.table.lend(), setting).map_err(|refusal| told(json, &head, &records, setting, refusal))?;
-    output::sheet(target, &sheet, out)
+    output::whole(target, &sheet, out)
 }
 
 /// The refusal with the line of the JSON that it is about.

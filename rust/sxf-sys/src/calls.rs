@@ -122,7 +122,8 @@ pub struct Value {
     pub power: i64,
 }
 
-/// `sxf_written`: how much of the output was written: bytes of a sheet or of a text, or 16-bit units.
+/// `sxf_written`: how much of the output was written: bytes of a sheet, of a text or of a code index, 16-bit units, or 64-bit numbers, three an
+/// entry or pick.
 #[repr(C)]
 #[derive(Clone, Copy, Debug, Default, PartialEq, Eq)]
 pub struct Written {
@@ -130,6 +131,17 @@ pub struct Written {
     pub place: u64,
     pub year: u64,
     pub length: u64,
+}
+
+/// `sxf_index`: the entries of a code index, and the blocks in which they stand.
+#[repr(C)]
+#[derive(Clone, Copy, Debug, Default, PartialEq, Eq)]
+pub struct Index {
+    pub number: u64,
+    pub place: u64,
+    pub year: u64,
+    pub entries: u64,
+    pub blocks: u64,
 }
 
 extern "C" {
@@ -189,6 +201,16 @@ extern "C" {
     pub fn sxf_to_utf16(coding: u32, text: *const u8, text_len: usize, units: *mut u16, units_len: usize) -> Written;
 
     pub fn sxf_from_utf16(coding: u32, units: *const u16, units_len: usize, text: *mut u8, text_len: usize) -> Written;
+
+    pub fn sxf_index_build(sheet: *const u8, sheet_len: usize, year: u32, index: *mut u8, index_len: usize) -> Written;
+
+    pub fn sxf_index_check(index: *const u8, index_len: usize) -> Index;
+
+    pub fn sxf_index_read(index: *const u8, index_len: usize, entries: *mut u64, entries_len: usize) -> Written;
+
+    pub fn sxf_index_select(index: *const u8, index_len: usize, code: u32, picks: *mut u64, picks_len: usize) -> Written;
+
+    pub fn sxf_select(sheet: *const u8, sheet_len: usize, year: u32, code: u32, picks: *mut u64, picks_len: usize) -> Written;
 }
 
 #[cfg(test)]
@@ -219,5 +241,6 @@ mod tests {
         laid_out!(Visibility: set lower upper);
         laid_out!(Value: number place year kind bits whole power);
         laid_out!(Written: number place year length);
+        laid_out!(Index: number place year entries blocks);
     }
 }

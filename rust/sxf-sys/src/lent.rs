@@ -163,6 +163,36 @@ pub fn from_utf16(coding: u32, units: &[u16], text: &mut [u8]) -> Written {
     unsafe { sxf_from_utf16(coding, units.as_ptr(), units.len(), text.as_mut_ptr(), text.len()) }
 }
 
+/// Builds the code index of a sheet, whose length is [`index_length`](crate::index::index_length) of its records.
+pub fn index_build(sheet: &[u8], year: u32, index: &mut [u8]) -> Written {
+    // SAFETY: as `to_utf16`.
+    unsafe { sxf_index_build(sheet.as_ptr(), sheet.len(), year, index.as_mut_ptr(), index.len()) }
+}
+
+/// Checks a code index.
+pub fn index_check(index: &[u8]) -> Index {
+    // SAFETY: as `check`.
+    unsafe { sxf_index_check(index.as_ptr(), index.len()) }
+}
+
+/// Reads the entries of a code index, three numbers each.
+pub fn index_read(index: &[u8], entries: &mut [u64]) -> Written {
+    // SAFETY: as `to_utf16`.
+    unsafe { sxf_index_read(index.as_ptr(), index.len(), entries.as_mut_ptr(), entries.len()) }
+}
+
+/// Selects the records of a class code by a code index, three numbers each.
+pub fn index_select(index: &[u8], code: u32, picks: &mut [u64]) -> Written {
+    // SAFETY: as `to_utf16`.
+    unsafe { sxf_index_select(index.as_ptr(), index.len(), code, picks.as_mut_ptr(), picks.len()) }
+}
+
+/// Selects the records of a class code from a sheet, three numbers each.
+pub fn select(sheet: &[u8], year: u32, code: u32, picks: &mut [u64]) -> Written {
+    // SAFETY: as `to_utf16`.
+    unsafe { sxf_select(sheet.as_ptr(), sheet.len(), year, code, picks.as_mut_ptr(), picks.len()) }
+}
+
 #[cfg(test)]
 mod tests {
     use super::*;

@@ -15,6 +15,7 @@
 //! | [`kinds`] | what `sxf_coordinate_of` and `sxf_value_of` say that a number is |
 //! | [`years`] | the nine settings, and the year of each feature |
 //! | [`fields`] | where the fields of a sheet stand, and how wide they are; the limit |
+//! | [`index`] | how long a code index is, and which number of an entry or a pick has which index |
 //! | [`row`] | which number of the record table has which index |
 //! | [`reference`](mod@reference) | the bits of a record's reference bytes |
 #![deny(missing_docs)]
@@ -25,6 +26,7 @@ pub mod calls;
 pub mod codings;
 pub mod dimensions;
 pub mod fields;
+pub mod index;
 pub mod kinds;
 // The one module that may: it calls the archive.
 #[allow(unsafe_code)]
@@ -35,7 +37,7 @@ pub mod row;
 pub mod units;
 pub mod years;
 
-pub use calls::{Checked, Coordinate, Corners, Head, Record, Unit, Value, Visibility, Written};
+pub use calls::{Checked, Coordinate, Corners, Head, Index, Record, Unit, Value, Visibility, Written};
 pub use fields::{Carried, Field, Rest, LIMIT};
 
 /// "Points 65535 is a mark: the count is the word at +24" (01, Record).

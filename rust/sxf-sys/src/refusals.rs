@@ -1,4 +1,4 @@
-//! The refusals by the documents' numbers and names (01, The refusals; 02, request 1), as the answers have them; [`OK`] is an answer that is none.
+//! The refusals by the documents' numbers and names (01, The refusals; 02, requests 1 and 3), as the answers have them; [`OK`] is an answer that is none.
 
 /// No refusal.
 pub const OK: u64 = 0;
@@ -36,3 +36,5 @@ pub const ROOM: u64 = 15;
 pub const ASK: u64 = 16;
 /// A byte of a text has no character in its coding, or a 16-bit unit has no byte.
 pub const NO_CHARACTER: u64 = 17;
+/// A block of a code index has a wrong length, number, count, filling or sum.
+pub const BAD_BLOCK: u64 = 18;

@@ -1,7 +1,7 @@
 //! Holds what this crate declares against `include/sxf.h`: each number, and each struct and call with the names, the order and the types of
 //! its fields and parameters.
 use sxf_sys::fields::{descriptor, passport, START};
-use sxf_sys::{codings, dimensions, kinds, lent, refusals, row, units, Carried, Rest, LIMIT, VERSION};
+use sxf_sys::{codings, dimensions, index, kinds, lent, refusals, row, units, Carried, Rest, LIMIT, VERSION};
 
 const HEADER: &str = include_str!("../../../include/sxf.h");
 const CALLS: &str = include_str!("../src/calls.rs");
@@ -46,6 +46,7 @@ fn numbers_are_the_headers() {
         ("SXF_ROOM", refusals::ROOM),
         ("SXF_ASK", refusals::ASK),
         ("SXF_NO_CHARACTER", refusals::NO_CHARACTER),
+        ("SXF_BAD_BLOCK", refusals::BAD_BLOCK),
         ("SXF_DATE_AT", passport::DATE.place as u64),
         ("SXF_DESIGNATION_AT", passport::DESIGNATION.place as u64),
         ("SXF_TITLE_AT", passport::TITLE.place as u64),
@@ -91,6 +92,16 @@ fn numbers_are_the_headers() {
         ("SXF_DOS", codings::DOS.into()),
         ("SXF_WINDOWS", codings::WINDOWS.into()),
         ("SXF_KOI8", codings::KOI8.into()),
+        ("SXF_BLOCK_SIZE", index::BLOCK_SIZE as u64),
+        ("SXF_BLOCK_FULL", index::BLOCK_FULL as u64),
+        ("SXF_ENTRY_CODE", index::ENTRY_CODE as u64),
+        ("SXF_ENTRY_PLACE", index::ENTRY_PLACE as u64),
+        ("SXF_ENTRY_LOCALISATION", index::ENTRY_LOCALISATION as u64),
+        ("SXF_ENTRY_WIDTH", index::ENTRY_WIDTH as u64),
+        ("SXF_PICK_RECORD", index::PICK_RECORD as u64),
+        ("SXF_PICK_PLACE", index::PICK_PLACE as u64),
+        ("SXF_PICK_LOCALISATION", index::PICK_LOCALISATION as u64),
+        ("SXF_PICK_WIDTH", index::PICK_WIDTH as u64),
     ];
     assert_eq!(numbers(&without_comments(HEADER)), ours.map(|(name, number)| (name.to_string(), number)));
 }
@@ -185,6 +196,6 @@ fn structs_and_calls_are_the_headers() {
     for each in structs.iter().chain(&calls) {
         assert!(declared.contains(each), "not declared so: {each}");
     }
-    assert_eq!((structs.len(), declared.matches("pubstruct").count()), (9, 9));
-    assert_eq!((calls.len(), declared.matches("pubfn").count()), (13, 13));
+    assert_eq!((structs.len(), declared.matches("pubstruct").count()), (10, 10));
+    assert_eq!((calls.len(), declared.matches("pubfn").count()), (18, 18));
 }

@@ -165,6 +165,11 @@ impl<'a> Records<'a> {
     pub(crate) fn of(sheet: &'a [u8], common: Common<'a>, rows: Rows<'a>) -> Records<'a> {
         Records { sheet, common, rows, number: 0, place: START }
     }
+
+    /// The record of a number, from 0, if it is none of those that were passed already.
+    pub(crate) fn go_to(&mut self, number: usize) -> Option<Record<'a>> {
+        self.nth(number.checked_sub(self.number)?)
+    }
 }
 
 impl<'a> Iterator for Records<'a> {

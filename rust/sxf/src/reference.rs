@@ -32,6 +32,19 @@ pub enum Localisation {
 }
 
 impl Localisation {
+    /// The localisation of a number; none for one over 5.
+    pub(crate) fn of(number: u32) -> Option<Localisation> {
+        match number {
+            0 => Some(Localisation::Linear),
+            1 => Some(Localisation::Areal),
+            2 => Some(Localisation::Point),
+            3 => Some(Localisation::Label),
+            4 => Some(Localisation::Vector),
+            5 => Some(Localisation::LabelTemplate),
+            _ => None,
+        }
+    }
+
     fn number(self) -> u32 {
         match self {
             Localisation::Linear => 0,
@@ -117,15 +130,7 @@ impl Reference {
 
     /// The localisation; none for a number over 5.
     pub fn localisation(self) -> Option<Localisation> {
-        match self.localisation_number() {
-            0 => Some(Localisation::Linear),
-            1 => Some(Localisation::Areal),
-            2 => Some(Localisation::Point),
-            3 => Some(Localisation::Label),
-            4 => Some(Localisation::Vector),
-            5 => Some(Localisation::LabelTemplate),
-            _ => None,
-        }
+        Localisation::of(self.localisation_number())
     }
 
     /// Bits 6-7 of byte 22.

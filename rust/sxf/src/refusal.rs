@@ -13,10 +13,11 @@ use sxf_sys::refusals;
 /// ```
 #[derive(Clone, Copy, Debug, PartialEq, Eq, Hash)]
 pub struct Refusal {
-    /// The documents' number, 1 to 17.
+    /// The documents' number, 1 to 18.
     pub number: u32,
     /// A byte of the sheet, or for the writer's table an index of its numbers, or for [`NO_CHARACTER`](Refusal::NO_CHARACTER) an index of what
-    /// was to be turned. For [`ROOM`](Refusal::ROOM) of unfolding it is 1, 2 or 3, the output that is too small.
+    /// was to be turned, or for [`BAD_BLOCK`](Refusal::BAD_BLOCK) a byte of the code index. For [`ROOM`](Refusal::ROOM) of unfolding it is 1, 2 or 3,
+    /// the output that is too small.
     pub place: usize,
     /// The year of the feature for [`TOO_NEW`](Refusal::TOO_NEW), else 0.
     pub year: u32,
@@ -67,6 +68,7 @@ named! {
     ROOM "ROOM" "a lent output is too small"
     ASK "ASK" "the year asked for is none of the nine settings, or there is no record of that number"
     NO_CHARACTER "NO CHARACTER" "a byte of the text has no character in its coding, or a character has no byte in it"
+    BAD_BLOCK "BAD BLOCK" "the block at this byte of the code index has a wrong length, number, count, filling or sum, so this is no index or it is damaged here"
 }
 
 impl Refusal {
@@ -133,8 +135,8 @@ mod tests {
     #[test]
     fn each_number_has_a_name() {
         let of = |number| Refusal { number, place: 0, year: 0 }.name();
-        assert!((Refusal::TOO_LONG..=Refusal::NO_CHARACTER).all(|n| !of(n).starts_with('(')));
-        assert!(of(0).starts_with('(') && of(18).starts_with('('));
+        assert!((Refusal::TOO_LONG..=Refusal::BAD_BLOCK).all(|n| !of(n).starts_with('(')));
+        assert!(of(0).starts_with('(') && of(19).starts_with('('));
     }
 
     #[test]

@@ -1,6 +1,8 @@
 //! A sheet is checked, read, and asked.
 use crate::coordinates::{HeightUnit, Unit};
 use crate::head::{Corners, Head};
+use crate::index::Index;
+use crate::pick::{select_sized, OtherSheet, Pick, Picks};
 use crate::record::{Common, Record, RecordAt, Records};
 use crate::refusal::low32;
 use crate::table::{Table, TableRef};
@@ -179,5 +181,56 @@ impl<'a> Sheet<'a> {
     /// The record of a number, from 0, or ASK. It goes over the rows before it.
     pub fn record(&self, number: usize) -> Result<Record<'_>, Refusal> {
         self.records().nth(number).ok_or(Refusal::NO_SUCH)
+    }
+
+    /// Its [code index](crate::index), to keep beside it. The library checks the sheet again for it.
+    pub fn index(&self) -> Result<Index, Refusal> {
+        Index::build_sized(self.bytes, self.setting, self.sizes.records)
+    }
+
+    /// Its records of a class code, without an index. The library checks the sheet again for it.
+    ///
+    /// ```
+    /// # let bytes = include_bytes!("../../../samples/labels.sxf");
+    /// # let sheet = sxf::Sheet::read(bytes, sxf::Setting::Y2017)?;
+    /// let picks = sheet.select(91_000_000)?;
+    /// for record in sheet.records_of(picks) {
+    ///     println!("{:?}", record?.parts().next().and_then(|part| part.text()));
+    /// }
+    /// # Ok::<(), Box<dyn std::error::Error>>(())
+    /// ```
+    pub fn select(&self, code: u32) -> Result<Picks, Refusal> {
+        select_sized(self.bytes, self.setting, code, self.sizes.records)
+    }
+
+    /// The record of a pick. It is given only if the sheet's record of that number has the pick's place, code and localisation: by the
+    /// [index of another sheet](crate::index#which-sheet-it-belongs-to) it may be none, or another one. It goes over the rows before it.
+    ///
+    /// ```
+    /// use sxf::{Index, Setting, Sheet};
+    /// # let (labels, q) = (include_bytes!("../../../samples/labels.sxf"), include_bytes!("../../../samples/Q.sxf"));
+    /// let index = Index::build(labels, Setting::Y2017)?;
+    /// let pick = index.select(91_000_000).next().expect("a label");
+    /// assert_eq!(Sheet::read(labels, Setting::Y2017)?.record_of(&pick)?.in_group(), 7);
+    ///
+    /// let other = Sheet::read(q, Setting::Y2017)?.record_of(&pick).unwrap_err();
+    /// let told = "the index does not belong to this sheet: it has record 0 at 452 (0x1c4), code 91000000, localisation 3, \
+    ///             where the sheet has record 0 at 452 (0x1c4), code 0, localisation 2";
+    /// assert_eq!(other.to_string(), told);
+    /// # Ok::<(), Box<dyn std::error::Error>>(())
+    /// ```
+    pub fn record_of(&self, pick: &Pick) -> Result<Record<'_>, OtherSheet> {
+        pick.held_against(self.records().go_to(pick.record))
+    }
+
+    /// The records of picks, each as [`record_of`](Sheet::record_of) gives it, in one walk over the rows as long as the picks are in record order,
+    /// as those of a selection are.
+    pub fn records_of(&self, picks: impl IntoIterator<Item = Pick>) -> impl Iterator<Item = Result<Record<'_>, OtherSheet>> {
+        let mut records = self.records();
+        picks.into_iter().map(move |pick| match records.go_to(pick.record) {
+            Some(record) => pick.held_against(Some(record)),
+            // It was passed already, or there is none.
+            None => self.record_of(&pick),
+        })
     }
 }

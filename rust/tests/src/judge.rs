@@ -1,13 +1,16 @@
 //! Asks the archive and `second` the same, and compares all of both answers
 //! and all memory that was lent.
 
+mod index;
 mod meanings;
 mod reading;
 mod texts;
 mod writing;
 
+use crate::archive;
 use crate::features;
 use crate::memory::Memory;
+use crate::numbers::Numbers;
 use crate::tally::{Call, Reason, Tally};
 use second::{Head, Refusal, Table};
 use std::fmt::Debug;
@@ -35,6 +38,9 @@ pub struct Judge {
     text: Memory<u8>,
     units: Memory<u16>,
     units_out: Memory<u16>,
+    index: Memory<u8>,
+    entries: Memory<u64>,
+    picks: Memory<u64>,
 }
 
 /// How many disagreements of one case are told.
@@ -66,6 +72,9 @@ impl Judge {
         self.text.reset(salt);
         self.units.reset(salt);
         self.units_out.reset(salt);
+        self.index.reset(salt);
+        self.entries.reset(salt);
+        self.picks.reset(salt);
         self.met = Tally::default();
         self.comparisons = 0;
         self.accepted = false;
@@ -132,6 +141,25 @@ impl Judge {
             self.disagree(|| format!("{}: the {name} are not what they should be at {index}", asked()));
         }
     }
+}
+
+/// How much longer an output may be than what is written to it: more than a
+/// loop over wide pieces would write past its end.
+const MORE: usize = 70;
+
+/// The lengths of outputs that so much is to be written into: larger, none, one
+/// too small, any up to its own, its own.
+fn rooms(length: usize, numbers: &mut Numbers) -> [usize; 5] {
+    let more = length + 1 + numbers.index(MORE);
+    let some = numbers.index(length + 1);
+    [more, 0, length.saturating_sub(1), some, length]
+}
+
+/// The archive's answer that this one calls for.
+fn written<T>(due: &Result<Vec<T>, Refusal>) -> archive::Written {
+    let Refusal { number, place, year } = refusal_of(due);
+    let length = due.as_ref().map_or(0, Vec::len) as u64;
+    archive::Written { number, place, year, length }
 }
 
 /// What is larger than this is not told in full.

@@ -1,15 +1,19 @@
 //! Holds the archive of the proved library against `second`, the independent
-//! reader and writer: both are given the same sheets, tables and texts, right
-//! ones and damaged ones, and must answer alike in every number and byte.
+//! reader and writer: both are given the same sheets, tables, texts and code
+//! indexes, right ones and damaged ones, and must answer alike in every number
+//! and byte.
 //!
 //! The words are the documents'. A case is told by its phase, its number and
 //! the seed of the run, and is the same in every run that has it.
 
 pub mod archive;
+pub mod blocks;
 pub mod coordinates;
 pub mod each;
 pub mod features;
 pub mod heads;
+pub mod index_damage;
+pub mod indexes;
 pub mod judge;
 pub mod known;
 pub mod large;

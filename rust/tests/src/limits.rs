@@ -1,5 +1,7 @@
-//! Sheets of exactly the limit, and beyond it.
+//! Sheets of exactly the limit, and beyond it; and code indexes of as many
+//! blocks as two bytes number, and beyond them.
 
+use crate::blocks::block_of;
 use crate::heads::{head, SETTINGS};
 use crate::judge::{Care, Judge};
 use crate::large::SHORE;
@@ -8,15 +10,20 @@ use crate::phases::not_before;
 use crate::tables;
 use second::{Head, Table};
 use sxf_sys::fields::{header, item, subobject, LIMIT, START};
+use sxf_sys::index::{BLOCK_FULL, PICK_WIDTH};
 use sxf_sys::reference::{ELEMENT_SIZE, FLOATING, SEMANTICS, THREE_DIMENSIONS};
 use sxf_sys::row::{self, ITEMS};
 use sxf_sys::years;
 
 const TOO_LONG_SHEETS: u64 = 120;
 const TOO_LONG_TABLES: u64 = 120;
+const LONG_INDEXES: u64 = 3;
+
+/// How many blocks two bytes number.
+const NUMBERED: usize = 1 << 16;
 
 /// How many cases there are.
-pub const CASES: u64 = TOO_LONG_SHEETS + TOO_LONG_TABLES + 2 * SHAPES.len() as u64;
+pub const CASES: u64 = TOO_LONG_SHEETS + TOO_LONG_TABLES + 2 * SHAPES.len() as u64 + LONG_INDEXES;
 
 /// What fills a sheet.
 #[derive(Clone, Copy, PartialEq, Eq, Debug)]
@@ -49,6 +56,10 @@ pub fn run(judge: &mut Judge, case: u64, numbers: &mut Numbers) {
         return;
     }
     let case = case - TOO_LONG_TABLES;
+    if case < LONG_INDEXES {
+        return long_index(judge, NUMBERED - 1 + case as usize, numbers);
+    }
+    let case = case - LONG_INDEXES;
     let shape = SHAPES[case as usize / 2];
     let over = case as usize % 2;
     judge.note(format!("{shape:?} for {LIMIT} + {over} bytes"));
@@ -62,6 +73,22 @@ fn too_long_sheet(judge: &mut Judge, case: usize, numbers: &mut Numbers) {
     let year = SETTINGS[case % SETTINGS.len()];
     judge.note(format!("{length} zeros"));
     judge.reads_in_place(&sheet, &[(year, Care::Whole), (2005, Care::Check)], numbers);
+}
+
+/// An index of so many blocks: the number of one that is beyond two bytes cannot
+/// be right.
+fn long_index(judge: &mut Judge, blocks: usize, numbers: &mut Numbers) {
+    judge.note(format!("an index of {blocks} blocks"));
+    let entry = |number: usize| (number as u64 | 1 << 63).to_le_bytes();
+    let block = |number: usize| block_of(number, &[entry(number); BLOCK_FULL]);
+    let index = (0..blocks).map(block).collect::<Vec<_>>().into_flattened();
+    judge.accepted = judge.index_check(&index);
+    judge.index_read(&index, 0);
+    let last = blocks as u32 - 1;
+    let room = numbers.pick(&[PICK_WIDTH * BLOCK_FULL, PICK_WIDTH * BLOCK_FULL - 1]);
+    judge.index_select(&index, last, room);
+    // The last of them as a piece.
+    judge.index_check(&index[..index.len() - 1]);
 }
 
 /// A table that fills the limit is written and read; with one byte more it
@@ -85,6 +112,8 @@ fn at_limit(judge: &mut Judge, numbers: &mut Numbers, shape: Shape, over: usize)
             short[slice] = short[slice].saturating_sub(1);
             judge.unfold(&sheet, year, &due, short);
         }
+        let last = tables::rows(&table).last().map_or(0, |row| row.record.code);
+        judge.indexed(&sheet, year, &[last as u32], numbers);
     }
 }
 

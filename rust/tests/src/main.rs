@@ -10,7 +10,7 @@
 use held_against_second::features;
 use held_against_second::judge::Judge;
 use held_against_second::phases::{Phase, PHASES};
-use held_against_second::tally::{Tally, CALLS, NUMBERS};
+use held_against_second::tally::{Tally, BY_INDEX, CALLS, FROM_SHEET, NUMBERS};
 use std::panic::{catch_unwind, AssertUnwindSafe};
 use std::process::ExitCode;
 use std::time::Instant;
@@ -194,6 +194,10 @@ fn print_reasons(tally: &Tally) {
     }
     println!("items: kinds 0 to 5 {:?}", tally.items);
     println!("codings 0 to 2: there {:?}, back {:?}", tally.there, tally.back);
+    println!("indexes by the entries of their last block: {:?}", tally.last_counts);
+    println!("built indexes by the bytes of their last place, 2 or 3: {:?}", tally.places);
+    println!("no hit, one, more: by an index {:?}, from a sheet {:?}", tally.hits[BY_INDEX], tally.hits[FROM_SHEET]);
+    println!("selected localisations 0 to 5: {:?}", tally.localisations);
 }
 
 /// Runs the phases that are asked for, and prints a line for each.

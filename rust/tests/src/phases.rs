@@ -3,6 +3,7 @@
 use crate::coordinates;
 use crate::each;
 use crate::heads::{head, NO_SETTINGS, SETTINGS};
+use crate::indexes;
 use crate::judge::{Care, Judge};
 use crate::known;
 use crate::large;
@@ -56,9 +57,19 @@ pub enum Phase {
     EachUnit,
     /// Texts and units that are drawn.
     Texts,
+    /// The code indexes of sheets about whole numbers of blocks, at every
+    /// setting.
+    EachSize,
+    /// Every byte and every length of a code index, for one count of its last
+    /// block.
+    EachBlock,
+    /// Sheets that are drawn, and their code indexes.
+    Indexes,
+    /// Code indexes of entries that may be any, right or damaged.
+    DamagedIndexes,
 }
 
-pub const PHASES: [Phase; 18] = [
+pub const PHASES: [Phase; 22] = [
     Phase::Known,
     Phase::Visibility,
     Phase::Values,
@@ -77,6 +88,10 @@ pub const PHASES: [Phase; 18] = [
     Phase::Tables,
     Phase::DamagedTables,
     Phase::Large,
+    Phase::EachSize,
+    Phase::EachBlock,
+    Phase::Indexes,
+    Phase::DamagedIndexes,
 ];
 
 impl Phase {
@@ -100,6 +115,10 @@ impl Phase {
             Phase::DrawnCoordinates => "drawn-coords",
             Phase::EachUnit => "each-unit",
             Phase::Texts => "texts",
+            Phase::EachSize => "each-size",
+            Phase::EachBlock => "each-block",
+            Phase::Indexes => "indexes",
+            Phase::DamagedIndexes => "damaged-indexes",
         }
     }
 
@@ -122,6 +141,10 @@ impl Phase {
             Phase::Large => 2000 * times,
             Phase::DrawnCoordinates => 20_000 * times,
             Phase::Texts => 25_000 * times,
+            Phase::EachSize => indexes::EACH_SIZE,
+            Phase::EachBlock => indexes::EACH_BLOCK,
+            Phase::Indexes => 5000 * times,
+            Phase::DamagedIndexes => 60_000 * times,
         }
     }
 
@@ -148,6 +171,10 @@ impl Phase {
             Phase::DrawnCoordinates => coordinates::drawn(judge, numbers),
             Phase::EachUnit => texts::byte(judge, case as u8, numbers),
             Phase::Texts => texts::drawn(judge, numbers),
+            Phase::EachSize => indexes::size(judge, case, numbers),
+            Phase::EachBlock => indexes::block(judge, case, numbers),
+            Phase::Indexes => indexes::drawn(judge, numbers),
+            Phase::DamagedIndexes => indexes::damaged(judge, numbers),
         }
     }
 

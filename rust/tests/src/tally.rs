@@ -1,8 +1,10 @@
 //! What was met: each refusal of each call, and each reason for one.
 
+use crate::blocks::{Fault, Stands};
 use crate::features;
 use std::collections::BTreeMap;
 use sxf_sys::fields::{descriptor, header, passport};
+use sxf_sys::index::BLOCK_FULL;
 use sxf_sys::refusals::*;
 use sxf_sys::{codings, kinds, row, units, years};
 
@@ -21,9 +23,14 @@ pub enum Call {
     CoordinateOf,
     ToUtf16,
     FromUtf16,
+    IndexBuild,
+    IndexCheck,
+    IndexRead,
+    IndexSelect,
+    Select,
 }
 
-pub const CALLS: [Call; 12] = [
+pub const CALLS: [Call; 17] = [
     Call::Check,
     Call::Unfold,
     Call::RecordAt,
@@ -36,6 +43,11 @@ pub const CALLS: [Call; 12] = [
     Call::CoordinateOf,
     Call::ToUtf16,
     Call::FromUtf16,
+    Call::IndexBuild,
+    Call::IndexCheck,
+    Call::IndexRead,
+    Call::IndexSelect,
+    Call::Select,
 ];
 
 impl Call {
@@ -43,12 +55,14 @@ impl Call {
     pub fn refusals(self) -> &'static [u64] {
         match self {
             Call::Check | Call::RecordAt | Call::HeadOf | Call::UnitOf | Call::CornersOf => &OF_SHEETS,
-            Call::Unfold => &OF_UNFOLDING,
+            Call::Unfold | Call::IndexBuild | Call::Select => &OF_SHEETS_AND_ROOM,
             Call::Write => &[TOO_LONG, TEXT, RESERVED, TOO_NEW, NOT_CARRIED, COUNT, SEMANTIC, TABLE, ROOM, ASK],
             Call::ValueOf => &[SEMANTIC],
             Call::VisibilityOf => &[],
             Call::CoordinateOf => &[TABLE, ASK],
             Call::ToUtf16 | Call::FromUtf16 => &[ROOM, ASK, NO_CHARACTER],
+            Call::IndexCheck => &[BAD_BLOCK],
+            Call::IndexRead | Call::IndexSelect => &[ROOM, BAD_BLOCK],
         }
     }
 }
@@ -59,12 +73,12 @@ const OF_SHEETS: [u64; 14] = [
 ];
 
 #[rustfmt::skip]
-const OF_UNFOLDING: [u64; 15] = [
+const OF_SHEETS_AND_ROOM: [u64; 15] = [
     TOO_LONG, SHORT, NOT_SXF, EDITION, SUM, TEXT, RESERVED, TOO_NEW, NOT_CARRIED, LENGTH, COUNT, SEMANTIC, LEFT_OVER, ROOM, ASK,
 ];
 
 /// The refusals' numbers, and 0 for an answer that is none.
-pub const NUMBERS: usize = NO_CHARACTER as usize + 1;
+pub const NUMBERS: usize = BAD_BLOCK as usize + 1;
 
 /// Where a refusal stands.
 #[derive(Clone, Copy, PartialEq, Eq, PartialOrd, Ord, Debug)]
@@ -99,6 +113,8 @@ pub enum Where {
     InnerCharacter,
     /// At the last, which is not the first.
     LastCharacter,
+    /// At a block of a code index that stands there and has this fault alone.
+    Block(Stands, Fault),
     /// At a lent slice.
     Lent(u64),
     /// At the question itself.
@@ -106,7 +122,8 @@ pub enum Where {
 }
 
 /// Whether a sheet was read or a table written, the meaning of an element or of
-/// an item was asked for, or a text was turned to UTF-16 or back.
+/// an item was asked for, a text was turned to UTF-16 or back, or a code index
+/// was read.
 #[derive(Clone, Copy, PartialEq, Eq, PartialOrd, Ord, Debug)]
 pub enum Way {
     Read,
@@ -114,6 +131,7 @@ pub enum Way {
     Mean,
     There,
     Back,
+    Index,
 }
 
 /// Why something was refused, as far as number, place and year tell.
@@ -147,7 +165,20 @@ pub struct Tally {
     pub there: [u64; CODINGS],
     /// The codings of texts that were turned back.
     pub back: [u64; CODINGS],
+    /// The code indexes that were accepted, by the entries of their last block;
+    /// at 0 there was no block.
+    pub last_counts: [u64; BLOCK_FULL + 1],
+    /// The selections by an index and from a sheet that had no hit, one, more.
+    pub hits: [[u64; 3]; 2],
+    /// The localisations of records that were selected from sheets.
+    pub localisations: [u64; 6],
+    /// The indexes that were built whose last place took two bytes, or three.
+    pub places: [u64; 2],
 }
+
+/// Which of the two ways a selection was made.
+pub const BY_INDEX: usize = 0;
+pub const FROM_SHEET: usize = 1;
 
 /// The kinds of numbers.
 pub const KINDS: usize = kinds::DECIMAL as usize + 1;
@@ -183,6 +214,10 @@ impl Default for Tally {
             items: Default::default(),
             there: Default::default(),
             back: Default::default(),
+            last_counts: [0; BLOCK_FULL + 1],
+            hits: Default::default(),
+            localisations: Default::default(),
+            places: Default::default(),
         }
     }
 }
@@ -207,6 +242,10 @@ impl Tally {
         add(&mut self.items, &other.items);
         add(&mut self.there, &other.there);
         add(&mut self.back, &other.back);
+        add(&mut self.last_counts, &other.last_counts);
+        add(self.hits.as_flattened_mut(), other.hits.as_flattened());
+        add(&mut self.localisations, &other.localisations);
+        add(&mut self.places, &other.places);
         for (reason, more) in &other.reasons {
             *self.reasons.entry(*reason).or_default() += more;
         }
@@ -248,6 +287,24 @@ impl Tally {
         missing.extend(self.missing_meanings(least));
         missing.extend(seldom(&self.there, &IN_TEXTS, least, "a text there from coding"));
         missing.extend(seldom(&self.back, &IN_TEXTS, least, "a text back to coding"));
+        missing.extend(self.missing_indexes(least));
+        missing
+    }
+
+    /// Whatever code indexes and selections were less often than `least` times.
+    fn missing_indexes(&self, least: u64) -> Vec<String> {
+        let [by_index, from_sheet] = &self.hits;
+        let mut missing = Vec::new();
+        for (met, name) in [
+            (&self.last_counts[..], "an index whose last block has entries:"),
+            (by_index, "a selection by an index of hits:"),
+            (from_sheet, "a selection from a sheet of hits:"),
+            (&self.localisations, "a selected localisation"),
+            (&self.places, "an index whose last place has so many bytes more than two:"),
+        ] {
+            let all: Vec<u64> = (0..met.len() as u64).collect();
+            missing.extend(seldom(met, &all, least, name));
+        }
         missing
     }
 
@@ -296,12 +353,15 @@ pub fn due() -> Vec<Reason> {
     due.extend(reasons(Way::Mean, &OF_MEANINGS));
     due.extend(reasons(Way::There, &OF_TEXTS));
     due.extend(reasons(Way::Back, &OF_TEXTS));
+    due.extend(reasons(Way::Index, &OF_INDEXES));
     due
 }
 
+use Fault::{Length, NoEntries, NotFull, Number, OverFull, Sum, Unused, Zeros};
+use Stands::{Alone, First, Inner, Last};
 use Where::{
-    After, Asked, FirstCharacter, Head, Header, InnerCharacter, Item, LastCharacter, Lent, MetricEnd, Row, Semantics, TableEnd,
-    TextLength,
+    After, Asked, Block, FirstCharacter, Head, Header, InnerCharacter, Item, LastCharacter, Lent, MetricEnd, Row, Semantics,
+    TableEnd, TextLength,
 };
 
 /// The places that a record may have with the mark or without it.
@@ -378,6 +438,27 @@ const OF_MEANINGS: [Stated; 3] =
 const OF_TEXTS: [Stated; 3] =
     [(NO_CHARACTER, 0, &[FirstCharacter, InnerCharacter, LastCharacter]), (ROOM, 0, &[Asked]), (ASK, 0, &[Asked])];
 
+/// What is refused of a code index. A piece is the last, and what is not the
+/// last has no unused entry.
+#[rustfmt::skip]
+const OF_INDEXES: [Stated; 4] = [
+    (BAD_BLOCK, 0, &[
+        Block(Alone, Length), Block(Alone, Number), Block(Alone, NoEntries), Block(Alone, OverFull), Block(Alone, Unused),
+        Block(Alone, Zeros), Block(Alone, Sum),
+    ]),
+    (BAD_BLOCK, 0, &[
+        Block(First, Number), Block(First, NoEntries), Block(First, NotFull), Block(First, OverFull), Block(First, Zeros),
+        Block(First, Sum),
+    ]),
+    (BAD_BLOCK, 0, &[
+        Block(Inner, Number), Block(Inner, NoEntries), Block(Inner, NotFull), Block(Inner, OverFull), Block(Inner, Zeros),
+        Block(Inner, Sum),
+    ]),
+    (BAD_BLOCK, 0, &[
+        Block(Last, Length), Block(Last, Number), Block(Last, NoEntries), Block(Last, OverFull), Block(Last, Unused),
+        Block(Last, Zeros), Block(Last, Sum),
+    ]),
+];
 /// The rest that the writer refuses.
 const OF_WRITING: [Stated; 20] = [
     (TOO_LONG, 0, &[Asked]),

@@ -31,17 +31,17 @@ abbrev plain : (s : List ℕ) → Bytes s → Plain s
 plain s b = record { isBytes = b }
 
 infixl 20 _⊹_
-_⊹_ : {s t : List ℕ} → Plain s → Plain t → Plain (s ++ t)
+pub _⊹_ : {s t : List ℕ} → Plain s → Plain t → Plain (s ++ t)
 _⊹_ {s} {t} a b = plain (s ++ t) (all-append (λ x. x < 256) s t .1 (a .isBytes, b .isBytes))
 
-flat-plain : {A : Type 0} (E : A → List ℕ) (F : A → Type 0) → ((a : A) → F a → Plain (E a)) → (l : List A) → All F l → Plain (flat E l)
+pub flat-plain : {A : Type 0} (E : A → List ℕ) (F : A → Type 0) → ((a : A) → F a → Plain (E a)) → (l : List A) → All F l → Plain (flat E l)
 flat-plain E F g [] h = plain [] tt
 flat-plain E F g (a ∷ l) h = g a (h .0) ⊹ flat-plain E F g l (h .1)
 
 number-plain : (n v : ℕ) → Plain (bytes n v)
 number-plain n v = plain (bytes n v) (bytes-bytes n v)
 
-stored-plain : (f : Field) (v : ℕ) → Plain (stored f v)
+pub stored-plain : (f : Field) (v : ℕ) → Plain (stored f v)
 stored-plain f v = number-plain (f .width) v
 
 all-plain : (ws vs : List ℕ) → Plain (storedAll ws vs)
@@ -49,7 +49,7 @@ all-plain [] vs = plain [] tt
 all-plain (w ∷ ws) [] = plain [] tt
 all-plain (w ∷ ws) (v ∷ vs) = number-plain w v ⊹ all-plain ws vs
 
-zeros-plain : (n : ℕ) → Plain (replicate n 0)
+pub zeros-plain : (n : ℕ) → Plain (replicate n 0)
 zeros-plain zero = plain [] tt
 zeros-plain (suc n) = plain _ (omega arith, zeros-plain n .isBytes)
 

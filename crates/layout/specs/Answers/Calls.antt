@@ -80,5 +80,9 @@ asked year s number = andThen (reading year s) (λ t. recordOf start (t .records
 abbrev pub inRoom : ℕ → List ℕ → Answer (List ℕ)
 inRoom room s = cond (leb (length s) room) (given s) (refused ROOM 0 0)
 
+-- what is given, where it fits a lent output of so many: ROOM comes after every other refusal
+abbrev pub roomed : ℕ → Answer (List ℕ) → Answer (List ℕ)
+roomed room a = andThen a (inRoom room)
+
 unfoldable pub written : ℕ → Head → Table → ℕ → Answer (List ℕ)
 written year h t room = atSetting year (andThen (answer (upTo year) (tableWalk h t)) (λ u. inRoom room (encode u)))

@@ -5,6 +5,8 @@ use lib.ListN.{length}
 use Rattle.layout.specs.Answers.Calls.{Placed}
 use Rattle.layout.specs.Answers.Corners.{planeCorners}
 use Rattle.layout.specs.Answers.Units.{sheetUnit}
+use Rattle.layout.specs.Fields.Block
+use Rattle.layout.specs.Index.Blocks.{begun}
 use Rattle.layout.specs.Layout.Encode.{encodeRecord, sheetSum}
 use Rattle.layout.specs.Shared.Row.{referenceNumber}
 use Rattle.layout.specs.Sheet.{Record, Head, Sheet, Table}
@@ -14,11 +16,15 @@ use Rattle.layout.specs.declared.Checked.{Checked}
 use Rattle.layout.specs.declared.Checked.the-variants as Check
 use Rattle.layout.specs.declared.Corners.{Corners}
 use Rattle.layout.specs.declared.Corners.the-variants as Corner
+use Rattle.layout.specs.declared.Entry.{Entry}
 use Rattle.layout.specs.declared.Found.{Found}
 use Rattle.layout.specs.declared.Found.the-variants as Find
 use Rattle.layout.specs.declared.HeadAt.{HeadAt}
 use Rattle.layout.specs.declared.Headed.{Headed}
 use Rattle.layout.specs.declared.Headed.the-variants as Heads
+use Rattle.layout.specs.declared.IndexSizes.{IndexSizes}
+use Rattle.layout.specs.declared.Indexed.{Indexed}
+use Rattle.layout.specs.declared.Indexed.the-variants as Index
 use Rattle.layout.specs.declared.RecordAt.{RecordAt}
 use Rattle.layout.specs.declared.Refusal.{Refusal}
 use Rattle.layout.specs.declared.Sizes.{Sizes}
@@ -85,6 +91,14 @@ headedOf (refused number place year) = Heads.Refused (refusal number place year)
 unfoldable pub writtenOf : Answer (List ℕ) → Written
 writtenOf (given s) = Write.Length (length s)
 writtenOf (refused number place year) = Write.Refused (refusal number place year)
+
+-- the entries of an index, and the blocks in which they stand
+abbrev pub indexSizes : List Entry → IndexSizes
+indexSizes es = record { entries = length es; blocks = begun Block.full (length es) }
+
+unfoldable pub indexedOf : Answer (List Entry) → Indexed
+indexedOf (given es) = Index.Accepted (indexSizes es)
+indexedOf (refused number place year) = Index.Refused (refusal number place year)
 
 unfoldable pub unitIn : Answer Sheet → UnitAnswer
 unitIn (given t) = Unit-of.Unit (sheetUnit (t .head))

@@ -37,6 +37,10 @@ theBytes t = t .bytes
 abbrev pub theSheet : List ℕ → List ℕ
 theSheet s = s
 
+-- what goes to the one slice of a call for an index or a selection
+abbrev pub theGiven : List ℕ → List ℕ
+theGiven l = l
+
 -- what goes to the slice of a text that is turned: units, or bytes
 abbrev pub theTurned : List ℕ → List ℕ
 theTurned ys = ys

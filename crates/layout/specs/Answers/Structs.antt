@@ -23,6 +23,8 @@ use Rattle.layout.specs.declared.Headed.{Headed}
 use Rattle.layout.specs.declared.Headed.the-variants as Heads
 use Rattle.layout.specs.declared.HeightUnit.{HeightUnit}
 use Rattle.layout.specs.declared.HeightUnit.the-variants as High
+use Rattle.layout.specs.declared.Indexed.{Indexed}
+use Rattle.layout.specs.declared.Indexed.the-variants as Index
 use Rattle.layout.specs.declared.Measured.{Measured}
 use Rattle.layout.specs.declared.Measured.the-variants as Measure
 use Rattle.layout.specs.declared.Number.{Number}
@@ -43,6 +45,7 @@ use Rattle.layout.specs.declared.Written.the-variants as Write
 use Rattle.layout.specs.declared.structs.SxfCoordinate.{SxfCoordinate}
 use Rattle.layout.specs.declared.structs.SxfCorners.{SxfCorners}
 use Rattle.layout.specs.declared.structs.SxfHead.{SxfHead}
+use Rattle.layout.specs.declared.structs.SxfIndex.{SxfIndex}
 use Rattle.layout.specs.declared.structs.SxfUnit.{SxfUnit}
 use Rattle.layout.specs.declared.structs.SxfValue.{SxfValue}
 use Rattle.layout.specs.declared.structs.SxfVisibility.{SxfVisibility}
@@ -64,6 +67,10 @@ checkedRow (Check.Refused r) =
 unfoldable pub writtenRow : Written → SxfWritten
 writtenRow (Write.Length n) = record { number = 0; place = 0; year = 0; length = n }
 writtenRow (Write.Refused r) = record { number = r .number; place = r .place; year = r .year; length = 0 }
+
+unfoldable pub indexRow : Indexed → SxfIndex
+indexRow (Index.Accepted z) = record { number = 0; place = 0; year = 0; entries = z .entries; blocks = z .blocks }
+indexRow (Index.Refused r) = record { number = r .number; place = r .place; year = r .year; entries = 0; blocks = 0 }
 
 unfoldable pub recordRow : Found → SxfRecord
 recordRow (Find.Record x) =

@@ -2,6 +2,7 @@
 
 mod codings;
 mod coordinates;
+mod index;
 mod limits;
 mod meanings;
 mod random;

@@ -80,7 +80,9 @@ const YEARS: &str = "1999, 2004, 2006, 2008, 2012, 2014, 2015, 2016, 2017";
 
 #[test]
 fn the_nine_years_stand_in_the_help() {
-    for words in [&["--help"][..], &["-h"], &["check", "--help"], &["show", "-h"], &["table", "-h"], &["write", "--help"]] {
+    let mut words = vec![&["--help"][..], &["-h"], &["check", "--help"], &["show", "-h"], &["table", "-h"], &["write", "--help"]];
+    words.extend([&["index", "--help"][..], &["select", "-h"]]);
+    for words in words {
         let help = sxf(words).output().expect("sxf runs");
         assert!(out(&help).contains(YEARS), "{words:?}: {}", out(&help));
     }

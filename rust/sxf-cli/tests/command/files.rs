@@ -122,7 +122,9 @@ fn a_file_of_another_user_is_never_replaced() {
         return;
     }
     fs::set_permissions(&folder.0, Permissions::from_mode(0o777)).expect("permissions");
-    fs::copy(env!("CARGO_BIN_EXE_sxf"), folder.file("sxf")).expect("the command");
+    // Not copied by this process: a child that another test starts meanwhile would have it open for writing, so that it could not be run.
+    let copied = Command::new("cp").arg(env!("CARGO_BIN_EXE_sxf")).arg(folder.file("sxf")).status().expect("cp runs");
+    assert!(copied.success());
     fs::write(folder.file("q.json"), good_and_refused().0).expect("a file");
     fs::write(folder.file("q.sxf"), b"what was there").expect("a file");
     let mut command = Command::new(folder.file("sxf"));
@@ -217,6 +219,8 @@ fn a_closed_standard_output_is_a_failure() {
         &["table", &q],
         &["years", &q],
         &["write", "q.json", "-o", "-"],
+        &["index", &q, "-o", "-"],
+        &["select", &q, "--code", "0"],
         &["--help"],
     ] {
         for (redirected, why) in [(">&-", "it is closed"), ("1</dev/null", "Bad file descriptor")] {

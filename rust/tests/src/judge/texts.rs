@@ -1,31 +1,12 @@
 //! Text of a coding, turned to UTF-16 and back.
 
-use super::{hex, refusal_of, Judge, TOLD};
+use super::{hex, rooms, written, Judge, TOLD};
 use crate::archive;
 use crate::numbers::Numbers;
 use crate::tally::{Call, Reason, Way, Where};
 use second::Refusal;
 use std::mem::take;
 use sxf_sys::refusals::{NO_CHARACTER, OK};
-
-/// How much longer an output may be than what is written to it: more than a
-/// loop over wide pieces would write past its end.
-const MORE: usize = 70;
-
-/// The lengths of outputs that a text of this length is turned into: larger,
-/// none, one too small, any up to its own, its own.
-fn rooms(length: usize, numbers: &mut Numbers) -> [usize; 5] {
-    let more = length + 1 + numbers.index(MORE);
-    let some = numbers.index(length + 1);
-    [more, 0, length.saturating_sub(1), some, length]
-}
-
-/// The archive's answer that this one calls for.
-fn written<T>(due: &Result<Vec<T>, Refusal>) -> archive::Written {
-    let Refusal { number, place, year } = refusal_of(due);
-    let length = due.as_ref().map_or(0, Vec::len) as u64;
-    archive::Written { number, place, year, length }
-}
 
 impl Judge {
     /// Turns a text there with all rooms, and what became of it back, and

@@ -1,0 +1,43 @@
+//! `sxf select`: the records of a class code, each as `sxf list` prints it.
+use crate::failure::Failure;
+use crate::{input, list};
+use std::fmt::Display;
+use std::io::Write;
+use std::path::Path;
+use sxf::{Index, OtherSheet, Picks, Record, Setting, Sheet};
+
+/// Nothing is printed before every record is held against the sheet, so that no list is cut short.
+pub fn run(file: &Path, code: u32, index: Option<&Path>, setting: Setting, out: &mut dyn Write) -> Result<(), Failure> {
+    if index.is_some_and(|index| input::is_standard(index) && input::is_standard(file)) {
+        return Err(Failure::Trouble("the sheet and the index are both -, and there is one standard input".to_string()));
+    }
+    let bytes = input::bytes(file)?;
+    let sheet = input::sheet(file, &bytes, setting)?;
+    let records = match index {
+        Some(index) => by_index(&sheet, index, &input::index(index)?, code)?,
+        None => by_sheet(&sheet, file, code)?,
+    };
+    list::listed(&sheet, records, out)
+}
+
+fn by_sheet<'a>(sheet: &'a Sheet<'_>, file: &Path, code: u32) -> Result<Vec<Record<'a>>, Failure> {
+    let picks = sheet.select(code).map_err(|refusal| Failure::refused(file, refusal))?;
+    let fault = |_| Failure::trouble(file, "what is selected is not among the sheet's records; this is a fault of sxf");
+    picked(sheet, picks).map_err(fault)
+}
+
+/// The records that an index has under the code, unless it is seen that it is another sheet's. One that has as many entries as there are records,
+/// and what the sheet has under the code, may still have less than the sheet: nothing shows that.
+fn by_index<'a>(sheet: &'a Sheet<'_>, file: &Path, index: &Index, code: u32) -> Result<Vec<Record<'a>>, Failure> {
+    let other = |told: &dyn Display| Failure::trouble(file, format!("{told}; build it again by `sxf index`"));
+    let (entries, records) = (index.entry_count(), sheet.record_count());
+    if entries != records {
+        let counts = format!("its entries are {entries}, where the sheet's records are {records}");
+        return Err(other(&format!("the index does not belong to this sheet: {counts}")));
+    }
+    picked(sheet, index.select(code)).map_err(|told| other(&told))
+}
+
+fn picked<'a>(sheet: &'a Sheet<'_>, picks: Picks) -> Result<Vec<Record<'a>>, OtherSheet> {
+    sheet.records_of(picks).collect()
+}
