@@ -3,6 +3,8 @@ ghost use mathlib.Core.Path.{_≡_};
 ghost use Prim.Native.Nat.{_+_, _-_, _*_, _≤_};
 ghost use lib.ListN.{length, drop, take};
 ghost use Rattle.layout.specs.Bytes.{zeros};
+ghost use Rattle.layout.specs.Fields.Block;
+ghost use Rattle.layout.specs.Fields.Entry as Field;
 ghost use Rattle.layout.specs.Index.Reading.{goodCount, goodBlock};
 use fields::numbers;
 use fields::sums;
@@ -21,8 +23,9 @@ fn good_count(last: bool, count: usize) -> bool
 
 // "unused entries are zero": the bytes that so many entries of the block at a place leave.
 fn unused_zero(index: &[u8], at: usize, count: usize) -> bool
-    requires { ⌜ (at + 512 ≤ length (now index)) × (count ≤ 63) ⌝ }
-    ensures { λ r. ⌜ r ≡ zeros (take (504 - 8 * count) (drop (at + (4 + 8 * count)) (now (index .entry)))) ⌝ }
+    requires { ⌜ (at + Block.size ≤ length (now index)) × (count ≤ Block.full) ⌝ }
+    ensures { λ r. ⌜ r ≡ zeros (take (Block.entries .width - Field.size * count)
+        (drop (at + (Block.entries .place + Field.size * count)) (now (index .entry)))) ⌝ }
 {
     let used = block::ENTRY_SIZE * count;
     texts::all_zero(numbers::part(

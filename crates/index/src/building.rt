@@ -1,10 +1,12 @@
 // The blocks of a sheet's index are written.
 ghost use mathlib.Core.Path.{_≡_};
-ghost use Prim.Native.Nat.{_+_, _*_, _≤_, _<_};
+ghost use Prim.Native.Nat.{_+_, _*_, _^_, _≤_, _<_};
 ghost use lib.ListN.{length};
 ghost use lib.Seq.{sets};
 ghost use Rattle.index.specs.Hopped.{hopped, placeAfter};
 ghost use Rattle.layout.specs.Bytes.{flat};
+ghost use Rattle.layout.specs.Fields.Block;
+ghost use Rattle.layout.specs.Fields.Entry as Field;
 ghost use Rattle.layout.specs.Index.Blocks.{encodeEntry, encodeUnsummed, encodeBlock, encodeBlocks, begun};
 ghost use Rattle.layout.specs.Reading.Sheets.{start};
 ghost use Rattle.reading.specs.Found.{Hops};
@@ -18,7 +20,7 @@ use layout::block;
 use layout::sheet;
 
 fn put_entry(e: Entry, out: &mut [u8], w: usize)
-    requires { ⌜ w + 8 ≤ length (now out) ⌝ }
+    requires { ⌜ w + Field.size ≤ length (now out) ⌝ }
     ensures { λ _. ⌜ now (out .exit) ≡ sets (now (out .entry)) w (encodeEntry e) ⌝ }
 {
     numbers::put_u32(out, w + block::ENTRY_CODE, e.code);
@@ -33,7 +35,7 @@ fn put_entry(e: Entry, out: &mut [u8], w: usize)
 
 // The entries of n records, of which the first starts at a place. Tells where the next record starts.
 fn put_entries(s: &[u8], first: usize, n: usize, out: &mut [u8], w: usize) -> usize
-    requires { ⌜ Hops n first (now s) × (w + 8 * n ≤ length (now out)) ⌝ }
+    requires { ⌜ Hops n first (now s) × (w + Field.size * n ≤ length (now out)) ⌝ }
     ensures next { λ r. ⌜ r ≡ placeAfter n first (now (s .entry)) ⌝ }
     ensures written { λ _. ⌜ now (out .exit) ≡ sets (now (out .entry)) w (flat encodeEntry (hopped n first (now (s .entry)))) ⌝ }
 {
@@ -51,7 +53,7 @@ fn put_entries(s: &[u8], first: usize, n: usize, out: &mut [u8], w: usize) -> us
 
 // Block `number` but for its sum. Its entries are those of n records, of which the first starts at a place; tells where the next one does.
 fn put_unsummed(s: &[u8], first: usize, n: usize, number: usize, out: &mut [u8], w: usize) -> usize
-    requires { ⌜ Hops n first (now s) × (n ≤ 63) × (number < 65536) × (w + 512 ≤ length (now out)) ⌝ }
+    requires { ⌜ Hops n first (now s) × (n ≤ Block.full) × (number < 256 ^ Block.number .width) × (w + Block.size ≤ length (now out)) ⌝ }
     ensures next { λ r. ⌜ r ≡ placeAfter n first (now (s .entry)) ⌝ }
     ensures written { λ _. ⌜ now (out .exit) ≡ sets (now (out .entry)) w (encodeUnsummed number (hopped n first (now (s .entry)))) ⌝ }
 {
@@ -70,7 +72,7 @@ fn put_unsummed(s: &[u8], first: usize, n: usize, number: usize, out: &mut [u8],
 
 // The same block with its sum.
 fn put_block(s: &[u8], first: usize, n: usize, number: usize, out: &mut [u8], w: usize) -> usize
-    requires { ⌜ Hops n first (now s) × (n ≤ 63) × (number < 65536) × (w + 512 ≤ length (now out)) ⌝ }
+    requires { ⌜ Hops n first (now s) × (n ≤ Block.full) × (number < 256 ^ Block.number .width) × (w + Block.size ≤ length (now out)) ⌝ }
     ensures next { λ r. ⌜ r ≡ placeAfter n first (now (s .entry)) ⌝ }
     ensures written { λ _. ⌜ now (out .exit) ≡ sets (now (out .entry)) w (encodeBlock number (hopped n first (now (s .entry)))) ⌝ }
 {
@@ -82,8 +84,8 @@ fn put_block(s: &[u8], first: usize, n: usize, number: usize, out: &mut [u8], w:
 
 // All blocks of an accepted sheet of so many records.
 pub fn put_blocks(s: &[u8], count: usize, out: &mut [u8])
-    requires { ⌜ Hops count start (now s) × (begun 63 count ≤ 65536) × (512 * begun 63 count ≤ length (now out)) ⌝ }
-    ensures { λ _. ⌜ now (out .exit) ≡ sets (now (out .entry)) 0 (encodeBlocks (begun 63 count) 0 (hopped count start (now (s .entry)))) ⌝ }
+    requires { ⌜ Hops count start (now s) × (begun Block.full count ≤ 256 ^ Block.number .width) × (Block.size * begun Block.full count ≤ length (now out)) ⌝ }
+    ensures { λ _. ⌜ now (out .exit) ≡ sets (now (out .entry)) 0 (encodeBlocks (begun Block.full count) 0 (hopped count start (now (s .entry)))) ⌝ }
 {
     let mut at: usize = sheet::START;
     let mut left = count;

@@ -3,6 +3,7 @@ ghost use mathlib.Core.Path.{_≡_};
 ghost use Prim.Native.Nat.{_+_, _^_, _≤_, _<_};
 ghost use lib.ListN.{length, drop};
 ghost use Rattle.index.specs.Places.{placeOf};
+ghost use Rattle.layout.specs.Fields.Entry as Field;
 ghost use Rattle.layout.specs.Index.Reading.{entryIn};
 use fields::numbers;
 use layout::Entry;
@@ -18,7 +19,7 @@ pub fn place_of(i: usize) -> usize
 
 // The entry at a place.
 pub fn entry_at(index: &[u8], p: usize) -> Entry
-    requires { ⌜ p + 8 ≤ length (now index) ⌝ }
+    requires { ⌜ p + Field.size ≤ length (now index) ⌝ }
     ensures { λ r. ⌜ r ≡ entryIn (drop p (now (index .entry))) ⌝ }
 {
     let low = numbers::u16_at(index, p + block::ENTRY_PLACE) as usize;

@@ -4,7 +4,9 @@ ghost use mathlib.Core.Path.{_≡_};
 ghost use Prim.Native.Nat.{_+_, _≤_};
 ghost use lib.ListN.{length};
 ghost use lib.Seq.{sets};
+ghost use Rattle.layout.specs.Answers.Enums.{refusal};
 ghost use Rattle.layout.specs.Index.Selecting.{pickEntry};
+ghost use Rattle.layout.specs.Refusals;
 use layout::Entry;
 use layout::Refusal;
 use layout::Written;
@@ -31,7 +33,7 @@ pub fn hit_size(e: Entry, number: usize, code: u32) -> usize
     0
 }
 
-// Puts them, and tells where the next go.
+// Writes them at w, and answers where those of the next entry go.
 pub fn put_hit(e: Entry, number: usize, code: u32, picks: &mut [u64], w: usize) -> usize
     requires { ⌜ w + length (pickEntry code number e) ≤ length (now picks) ⌝ }
     ensures { λ r. ⌜ (r ≡ w + length (pickEntry code number e)) × (now (picks .exit) ≡ sets (now (picks .entry)) w (pickEntry code number e)) ⌝ }
@@ -51,7 +53,7 @@ pub fn put_hit(e: Entry, number: usize, code: u32, picks: &mut [u64], w: usize) 
 
 // What is answered where the lent slice is too small.
 pub fn no_room() -> Written
-    ensures { λ r. ⌜ r ≡ Written.Refused (record { number = 15; place = 0; year = 0 }) ⌝ }
+    ensures { λ r. ⌜ r ≡ Written.Refused (refusal Refusals.ROOM 0 0) ⌝ }
 {
     Written::Refused(Refusal {
         number: ROOM,

@@ -1,6 +1,6 @@
 // From a sheet: its index, or the records of a class code without one. The sheet's own refusals come first, ROOM last.
 ghost use mathlib.Core.Path.{_≡_};
-ghost use Prim.Native.Nat.{_+_, _*_, _≤_, _<_};
+ghost use Prim.Native.Nat.{_^_, _≤_};
 ghost use lib.Dec.{leb};
 ghost use lib.ListN.{length};
 ghost use lib.Seq.{sets};
@@ -8,6 +8,7 @@ ghost use Rattle.index.specs.Hopped.{hopped};
 ghost use Rattle.layout.specs.Answers.Calls.{inRoom, roomed, lent};
 ghost use Rattle.layout.specs.Answers.Enums.{writtenOf};
 ghost use Rattle.layout.specs.Answers.Lent.{theGiven};
+ghost use Rattle.layout.specs.Fields.Block;
 ghost use Rattle.layout.specs.Index.Blocks.{encodeIndex, begun};
 ghost use Rattle.layout.specs.Index.Selecting.{each, pickEntry, indexOf, picked};
 ghost use Rattle.layout.specs.Reading.Sheets.{start};
@@ -25,7 +26,7 @@ use reading::sheets::check_by_year;
 
 // The index of an accepted sheet of so many records, if there is room.
 fn build_in(s: &[u8], count: usize, index: &mut [u8]) -> Written
-    requires { ⌜ Hops count start (now s) × (begun 63 count ≤ 65536) ⌝ }
+    requires { ⌜ Hops count start (now s) × (begun Block.full count ≤ 256 ^ Block.number .width) ⌝ }
     ensures answers { λ r. ⌜ r ≡ writtenOf (inRoom (length (now (index .entry))) (encodeIndex (hopped count start (now (s .entry))))) ⌝ }
     ensures written { λ _. ⌜ now (index .exit) ≡ lent theGiven (inRoom (length (now (index .entry))) (encodeIndex (hopped count start (now (s .entry)))))
         (now (index .entry)) ⌝ }
@@ -51,7 +52,7 @@ pub fn build_by_year(s: &[u8], year: u32, index: &mut [u8]) -> Written
 
 // How many numbers the hits among so many records are.
 fn count_hits(s: &[u8], count: usize, code: u32) -> usize
-    requires { ⌜ Hops count start (now s) × (begun 63 count ≤ 65536) ⌝ }
+    requires { ⌜ Hops count start (now s) × (begun Block.full count ≤ 256 ^ Block.number .width) ⌝ }
     ensures { λ r. ⌜ r ≡ length (each (pickEntry code) 0 (hopped count start (now (s .entry)))) ⌝ }
 {
     let mut n: usize = 0;
@@ -67,7 +68,7 @@ fn count_hits(s: &[u8], count: usize, code: u32) -> usize
 
 // Whether they fit a lent slice of so many numbers. Where three for each of the records fit, they need not be counted.
 fn have_room(s: &[u8], count: usize, code: u32, room: usize) -> bool
-    requires { ⌜ Hops count start (now s) × (begun 63 count ≤ 65536) ⌝ }
+    requires { ⌜ Hops count start (now s) × (begun Block.full count ≤ 256 ^ Block.number .width) ⌝ }
     ensures { λ r. ⌜ r ≡ leb (length (each (pickEntry code) 0 (hopped count start (now (s .entry))))) room ⌝ }
 {
     if block::ROW_WIDTH * count <= room {
@@ -95,7 +96,7 @@ fn put_hits(s: &[u8], count: usize, code: u32, picks: &mut [u64]) -> usize
 
 // The hits among so many records, if there is room.
 fn select_in(s: &[u8], count: usize, code: u32, picks: &mut [u64]) -> Written
-    requires { ⌜ Hops count start (now s) × (begun 63 count ≤ 65536) ⌝ }
+    requires { ⌜ Hops count start (now s) × (begun Block.full count ≤ 256 ^ Block.number .width) ⌝ }
     ensures answers { λ r. ⌜ r ≡ writtenOf (inRoom (length (now (picks .entry))) (each (pickEntry code) 0 (hopped count start (now (s .entry))))) ⌝ }
     ensures written { λ _. ⌜ now (picks .exit) ≡ lent theGiven (inRoom (length (now (picks .entry)))
         (each (pickEntry code) 0 (hopped count start (now (s .entry))))) (now (picks .entry)) ⌝ }

@@ -2,7 +2,7 @@
 -- must equal the one from reading the whole sheet. The selection is promised for an index built from that very sheet.")
 use mathlib.Core.List.{List}
 use mathlib.Core.Logic.{_↔_}
-use mathlib.Core.Path.{_≡_, refl, ap, sym, _∙_}
+use mathlib.Core.Path.{_≡_, ap, sym, _∙_}
 use Prim.Native.Nat.{ℕ, _*_, _^_, _≤_}
 use lib.ListN.{length}
 use native.Mathlib.Omega.{arith}
@@ -11,10 +11,11 @@ use Rattle.layout.specs.Bytes.{Bytes}
 use Rattle.layout.specs.Fields.Block
 use Rattle.layout.specs.Index.Blocks.{begun, encodeIndex, FineEntries}
 use Rattle.layout.specs.Index.Reading.{entriesIn}
-use Rattle.layout.specs.Index.Selecting.{entriesOf, indexOf, each, pickEntry, selected, picked}
+use Rattle.layout.specs.Index.Selecting.{entriesOf, indexOf, selected, picked}
+use Rattle.layout.specs.Layout.Fine.{Fits}
 use Rattle.layout.specs.Reading.Sheets.{start, sheetWalk}
 use Rattle.layout.specs.Sheet.{Sheet}
-use Rattle.layout.specs.Walk.{Walk, given, answer, upTo, outcome, ends}
+use Rattle.layout.specs.Walk.{given, upTo}
 use Rattle.layout.specs.Years.{isSetting}
 use Rattle.layout.specs.declared.Entry.{Entry}
 use Rattle.laws.proofs.Base.Walks.{given-inj, given-ends, cond-back, then-back}
@@ -53,9 +54,9 @@ module _ (year : ℕ) (s xs : List ℕ) (bs : Bytes s) (built : indexOf year s �
   unfolding selected picked
   selection other t e code = rw (index-read other t e, e) (ap given (picks-same code 0 start (t .records)))
 
--- The block numbers and the entry counts of an accepted sheet's index fit their two bytes, and it has 512 bytes for each begun block.
+-- The block numbers, which count from 0, and the entry counts of an accepted sheet's index fit their two bytes, and it has 512 bytes for each begun block.
 pub blocks-fit : (year : ℕ) (s xs : List ℕ) (t : Sheet) → Bytes s → reading year s ≡ given t → indexOf year s ≡ given xs
-    → (begun Block.full (length (t .records)) ≤ 256 ^ Block.number .width) × (Block.full ≤ 256 ^ Block.count .width)
+    → (begun Block.full (length (t .records)) ≤ 256 ^ Block.number .width) × Fits Block.count Block.full
     × (length xs ≡ Block.size * begun Block.full (length (t .records)))
 unfolding indexOf
 blocks-fit year s xs t bs e built =

@@ -6,7 +6,7 @@ use mathlib.Core.List.{List}
 use mathlib.Core.Logic.{_↔_}
 use mathlib.Core.Path.{_≡_, refl, sym, ap, subst, _∙_}
 use mathlib.Core.Bool.{true, false}
-use Prim.Native.Nat.{ℕ, _*_, _≤_, _<_}
+use Prim.Native.Nat.{ℕ, _*_, _^_, _≤_, _<_}
 use borrow.Author.Tests.{le-leb, lt-leb, leb-true}
 use lib.Dec.{leb}
 use lib.ListN.{length, take}
@@ -14,13 +14,14 @@ use native.Mathlib.Omega.{arith}
 use Rattle.index.proofs.Laws.Each.{all-rows}
 use Rattle.index.proofs.Laws.Told.{by-refusal as indexed-refusal}
 use Rattle.layout.specs.Answers.Calls.{andThen, reading, inRoom, roomed, over, lent}
-use Rattle.layout.specs.Answers.Enums.{refusal, sizesOf, checkedOf, indexSizes, indexedOf, writtenOf}
+use Rattle.layout.specs.Answers.Enums.{refusal, checkedOf, indexSizes, indexedOf, writtenOf}
 use Rattle.layout.specs.Answers.Lent.{theGiven}
 use Rattle.layout.specs.Bytes.{Bytes}
 use Rattle.layout.specs.Fields.Block
 use Rattle.layout.specs.Index.Blocks.{begun, encodeIndex, FineEntries}
 use Rattle.layout.specs.Index.Reading.{entriesIn}
-use Rattle.layout.specs.Index.Selecting.{entriesOf, indexOf, each, entryRow, pickRecords, selected, picked, entryRows}
+use Rattle.layout.specs.Index.Selecting.{entriesOf, indexOf, each, entryRow, pickEntry, pickRecords, selected, picked, entryRows}
+use Rattle.layout.specs.Layout.Fine.{Fits}
 use Rattle.layout.specs.Reading.Sheets.{start}
 use Rattle.layout.specs.Refusals.{ROOM, ASK, BAD-BLOCK}
 use Rattle.layout.specs.Sheet.{Sheet}
@@ -39,13 +40,13 @@ use Rattle.layout.specs.declared.Written.{Written}
 use Rattle.laws.proofs.Base.Walks.{given-inj, cond-back, then-back}
 use Rattle.laws.proofs.Index as Law
 use Rattle.laws.proofs.Years as Years
-use Rattle.laws.proofs.Index.Files.{FirstBad, index-refused}
+use Rattle.laws.proofs.Index.Files.{FirstBad, index-complete, index-refused}
 use Rattle.laws.proofs.Index.Sheets.{entries-of-length}
 use Rattle.laws.proofs.Written.{by-length, by-refusal}
 use Rattle.promises.proofs.Contracts.{Checks, ChecksIndex, Gives}
 use Rattle.promises.proofs.Rooms.{part-again, part-within}
 use Rattle.promises.proofs.Years.{first, unlessLate, tooNew, told, ask}
-use Rattle.reading.proofs.Laws.Seen.{by-accepted}
+use Rattle.reading.proofs.Laws.Seen.{by-accepted, refused-is}
 
 -- What fits is what was given.
 roomed-back : (room : ℕ) (w : Answer (List ℕ)) (l : List ℕ) → roomed room w ≡ given l → (w ≡ given l) × (length l ≤ room)
@@ -125,7 +126,8 @@ module _ (y : ℕ) (s o out : List ℕ) (n : ℕ) (bs : Bytes s) (built : Gives 
         (t, is, f .0 ∙ ap Write.Length (sym long), f .1)
 
     -- and the index has 512 bytes for each begun block of 63 records, whose numbers fit their two bytes.
-    pub blocks-fit : (n ≡ Block.size * begun Block.full (z .records)) × (begun Block.full (z .records) ≤ 65536)
+    pub blocks-fit : (n ≡ Block.size * begun Block.full (z .records)) × (begun Block.full (z .records) ≤ 256 ^ Block.number .width)
+        × Fits Block.count Block.full
     unfolding indexOf
     blocks-fit =
         let (t, is, sizes) = by-accepted (reading x s) z accepted in
@@ -135,8 +137,11 @@ module _ (y : ℕ) (s o out : List ℕ) (n : ℕ) (bs : Bytes s) (built : Gives 
         let count : length (u .records) ≡ z .records =
         sym (entries-of-length start (u .records)) ∙ ap length (sym same) ∙ entries-of-length start (t .records)
         ∙ sym (ap (λ (v : Sizes). v .records) sizes) in
-        let fit = Law.blocks-fit y s (take n out) u bs was whole in
-        (long ∙ fit .2 ∙ ap (λ k. Block.size * begun Block.full k) count, subst (λ k. begun Block.full k ≤ 65536) count (fit .0))
+        let fit = Law.blocks-fit y s (take n out) u bs was whole in (
+          long ∙ fit .2 ∙ ap (λ k. Block.size * begun Block.full k) count,
+          subst (λ k. begun Block.full k ≤ 256 ^ Block.number .width) count (fit .0),
+          fit .1,
+        )
 
 -- what an answer says of the entries
 indexed-back : (w : Answer (List Entry)) (z : IndexSizes) → Index.Accepted z ≡ indexedOf w → (es : List Entry) × (w ≡ given es) × (indexSizes es ≡ z)
@@ -159,6 +164,53 @@ index-exact xs bs r c z = (
 pub first-bad : (xs : List ℕ) (r : Indexed) → ChecksIndex xs r → (q : Refusal) → r ≡ Index.Refused q
     → (q .number ≡ BAD-BLOCK) × (q .year ≡ 0) × FirstBad (begun Block.size (length xs)) 0 xs (q .place)
 first-bad xs r c q e = index-refused xs (q .number) (q .place) (q .year) (indexed-refusal (entriesIn xs) q (sym e ∙ c))
+
+-- What `check` says of an index, the other calls say too: the same refusal, and nothing is written;
+module _ (xs : List ℕ) (q : Refusal) (bad : ChecksIndex xs (Index.Refused q)) (o out : List ℕ) (r : Written) where
+  stops : entriesIn xs ≡ refused (q .number) (q .place) (q .year)
+  stops = indexed-refusal (entriesIn xs) q bad
+
+  pub read-refused : Gives (entryRows xs) o out r → (r ≡ Write.Refused q) × (out ≡ o)
+  unfolding entryRows
+  read-refused g =
+      refused-first (entryRows xs) o out r g (q .number) (q .place) (q .year) (ap (λ w. andThen w (λ l. given (each entryRow 0 l))) stops)
+
+  pub select-refused : (code : ℕ) → Gives (selected code xs) o out r → (r ≡ Write.Refused q) × (out ≡ o)
+  unfolding selected
+  select-refused code g =
+      refused-first (selected code xs) o out r g (q .number) (q .place) (q .year) (ap (λ w. andThen w (λ l. given (each (pickEntry code) 0 l))) stops)
+
+-- and of blocks of entries `read` and `select` tell these entries, where there is room.
+module _ (es : List Entry) (fine : FineEntries es) (o out : List ℕ) (r : Written) where
+  pub read-entries : Gives (entryRows (encodeIndex es)) o out r → length (each entryRow 0 es) ≤ length o
+      → (r ≡ Write.Length (length (each entryRow 0 es))) × (out ≡ over (each entryRow 0 es) o)
+  unfolding entryRows
+  read-entries g =
+      given-fits (entryRows (encodeIndex es)) o out r g (each entryRow 0 es) (ap (λ w. andThen w (λ l. given (each entryRow 0 l))) (index-complete es fine))
+
+  pub select-entries : (code : ℕ) → Gives (selected code (encodeIndex es)) o out r → length (each (pickEntry code) 0 es) ≤ length o
+      → (r ≡ Write.Length (length (each (pickEntry code) 0 es))) × (out ≡ over (each (pickEntry code) 0 es) o)
+  unfolding selected
+  select-entries code g =
+      given-fits (selected code (encodeIndex es)) o out r g (each (pickEntry code) 0 es)
+      (ap (λ w. andThen w (λ l. given (each (pickEntry code) 0 l))) (index-complete es fine))
+
+-- What `check` refuses of a sheet, `build` and `select` refuse too.
+module _ (y : ℕ) (s : List ℕ) (q : Refusal) (bad : Checks y s (Check.Refused q)) (o out : List ℕ) (r : Written) where
+  stops-sheet : reading y s ≡ refused (q .number) (q .place) (q .year)
+  stops-sheet = refused-is y s q _ bad refl
+
+  pub build-refused : Gives (indexOf y s) o out r → (r ≡ Write.Refused q) × (out ≡ o)
+  unfolding indexOf
+  build-refused g =
+      refused-first (indexOf y s) o out r g (q .number) (q .place) (q .year)
+      (ap (λ a. andThen a (λ t. given (encodeIndex (entriesOf start (t .records))))) stops-sheet)
+
+  pub pick-refused : (code : ℕ) → Gives (picked y s code) o out r → (r ≡ Write.Refused q) × (out ≡ o)
+  unfolding picked
+  pick-refused code g =
+      refused-first (picked y s code) o out r g (q .number) (q .place) (q .year)
+      (ap (λ a. andThen a (λ t. given (pickRecords code 0 start (t .records)))) stops-sheet)
 
 -- A reader set to one of nine years. (Demand 3) What `build` and `select` tell is made of a reading: where the sheet has a feature that is later than the
 -- setting before any refusal of its own, they answer TOO NEW with that feature, and else as at 2017.
@@ -219,12 +271,22 @@ module _ (y : ℕ) (s o out : List ℕ) (w : Written) (built : Gives (indexOf y 
       let (l, was, count) = by-length (roomed (length o) (indexOf y s)) n (sym is ∙ built .0) in
       part-within theGiven (roomed (length o) (indexOf y s)) l was o out (built .1) n count
 
-  pub both : Bytes s → (xs : List ℕ) → xs ≡ take n out → (x code : ℕ) (p q by-index by-sheet : List ℕ) (r u : Written)
-      → Gives (selected code xs) p by-index r → Gives (picked x s code) q by-sheet u → (t : Sheet) → reading x s ≡ given t → p ≡ q → by-index ≡ by-sheet
-  unfolding checkedOf
-  both bs xs part x code p q by-index by-sheet r u g h t read same =
-      let accepted : Checks x s (Check.Accepted (sizesOf t)) = sym (ap checkedOf read) in
-      let g′ : Gives (selected code (take n out)) p by-index r = subst (λ l. Gives (selected code l) p by-index r) part g in
-      let h′ : Gives (picked x s code) p by-sheet u = subst (λ l. Gives (picked x s code) l by-sheet u) (sym same) h in
+  pub built-true : (true ≡ true) ↔ ((xs : List ℕ) × (indexOf y s ≡ given xs) × (length xs ≤ length o))
+  built-true =
+      let (l, was, count) = by-length (roomed (length o) (indexOf y s)) n (sym is ∙ built .0) in
+      (λ _. let (g, fits) = roomed-back (length o) (indexOf y s) l was in (l, g, fits), λ _. refl)
+
+  -- xs are the n bytes that were built
+  pub built-picks : Bytes s → (xs : List ℕ) → xs ≡ take n out → (x code : ℕ) (p picks : List ℕ) (r : Written)
+      → Gives (selected code xs) p picks r → (t : Sheet) → reading x s ≡ given t → picks ≡ lent theGiven (roomed (length p) (picked x s code)) p
+  built-picks bs xs part x code p picks r g t read =
       let built′ : Gives (indexOf y s) o out (Write.Length n) = subst (λ v. Gives (indexOf y s) o out v) is built in
-      selection y s o out n bs built′ x (sizesOf t) accepted code p by-index by-sheet r u g′ h′ .1
+      let same = Law.selection y s (take n out) bs (whole y s o out n bs built′) x t read code in
+      g .1 ∙ ap (λ l. lent theGiven (roomed (length p) (selected code l)) p) part ∙ ap (λ w. lent theGiven (roomed (length p) w) p) same
+
+pub built-false : (y : ℕ) (s o out : List ℕ) (w : Written) → Gives (indexOf y s) o out w → (q : Refusal) → w ≡ Write.Refused q
+    → (false ≡ true) ↔ ((xs : List ℕ) × (indexOf y s ≡ given xs) × (length xs ≤ length o))
+built-false y s o out w g q e = (
+  λ no. absurd (let z : _≡_ {A = ℕ} 0 1 = cc in omega arith),
+  λ h. let f = given-fits (indexOf y s) o out w g (h .0) (h .1) (h .2) .0 in absurd (let z : _≡_ {A = ℕ} 0 1 = cc in omega arith),
+)

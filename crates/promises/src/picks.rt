@@ -3,8 +3,12 @@ ghost use mathlib.Core.Bool.{true};
 ghost use mathlib.Core.List.{List};
 ghost use mathlib.Core.Logic.{_↔_};
 ghost use mathlib.Core.Path.{_≡_};
-ghost use Rattle.layout.specs.Answers.Calls.{reading};
+ghost use Prim.Native.Nat.{ℕ, _≤_};
+ghost use lib.ListN.{length};
+ghost use Rattle.layout.specs.Answers.Calls.{reading, roomed, lent as lentBy};
+ghost use Rattle.layout.specs.Answers.Lent.{theGiven};
 ghost use Rattle.layout.specs.Index.Blocks.{encodeIndex, FineEntries};
+ghost use Rattle.layout.specs.Index.Selecting.{indexOf, picked};
 ghost use Rattle.layout.specs.Sheet.{Sheet};
 ghost use Rattle.layout.specs.Walk.{given};
 use crate::lent;
@@ -27,25 +31,24 @@ pub fn keeps_blocks(index: &[u8]) -> bool
     }
 }
 
-// Builds the index of a sheet at a setting, and selects by a code through it, and from the sheet at another setting. True where the index was
-// built: if the sheet is accepted at the other setting, and the two slices held the same before, they hold the same then.
-pub fn select_both(
+// Builds the index of a sheet at a setting, and selects by a code through it. True exactly where the index was built, which is where the sheet is
+// accepted and there is room; and where the sheet is accepted at another setting too, what was selected is what the sheet itself gives there.
+pub fn select_built(
     s: &[u8],
     setting: Setting,
     other: Setting,
     code: u32,
     index: &mut [u8],
-    by_index: &mut [u64],
-    by_sheet: &mut [u64],
+    picks: &mut [u64],
 ) -> bool
-    ensures { λ r. ⌜ (r ≡ true → (t : Sheet) → reading (other .year) (now (s .entry)) ≡ given t
-        → now («by_index» .entry) ≡ now («by_sheet» .entry) → now («by_index» .exit) ≡ now («by_sheet» .exit)) ⌝ }
+    ensures built { λ r. ⌜ (r ≡ true) ↔ ((xs : List ℕ) × (indexOf (setting .year) (now (s .entry)) ≡ given xs) × (length xs ≤ length (now (index .entry)))) ⌝ }
+    ensures picked { λ r. ⌜ (r ≡ true → (t : Sheet) → reading (other .year) (now (s .entry)) ≡ given t
+        → now (picks .exit) ≡ lentBy theGiven (roomed (length (now (picks .entry))) (picked (other .year) (now (s .entry)) code)) (now (picks .entry))) ⌝ }
 {
     lent::bytes(s);
     match sheets::build(s, setting, index) {
         Written::Length(n) => {
-            files::select(part(index, 0, n), code, by_index);
-            sheets::select(s, other, code, by_sheet);
+            files::select(part(index, 0, n), code, picks);
             true
         }
         Written::Refused(_) => false,

@@ -88,7 +88,7 @@ pub enum Command {
     /// The index has the class code, the place and the localisation of each record, 63 to a block of 512 bytes; that of a sheet without records
     /// is empty. It does not say which sheet it belongs to, and its format cannot tell: keep it beside its sheet, and build it again after each
     /// change. `sxf index FILE -o - | cmp - INDEX` tells whether it is that of the sheet as it stands. The file is written whole or not at all, and
-    /// never over the sheet.
+    /// never over the sheet that FILE names or that standard input is; a sheet that comes through a pipe is not known.
     Index {
         /// The sheet
         file: PathBuf,
@@ -104,15 +104,16 @@ pub enum Command {
     /// List the records of a class code, by the sheet or by its index
     ///
     /// The first line is that of `sxf list`, with the count of all records; then comes, as there, a line for each record of the code. With
-    /// --index they are those that the index has; the sheet is checked all the same. An index does not say which sheet it belongs to, and its
+    /// --index they are those that the index has. That saves no time here, since the sheet is read and checked all the same: an index is for
+    /// programs that keep the sheet checked, or read records by place. An index does not say which sheet it belongs to, and its
     /// format cannot tell: keep it beside its sheet, and build it again after each change. It is noticed, and nothing listed, where the index has not
     /// as many entries as the sheet has records, or has under the code a record that is not the sheet's by number, place, code and localisation.
     /// It is not noticed where the index has a record of the code under another one: that record is missing then.
     Select {
         /// The sheet
         file: PathBuf,
-        /// The class code
-        #[arg(long, value_name = "N", value_parser = class_code)]
+        /// The class code, in decimal, 0 to 4294967295
+        #[arg(long, value_name = "N", value_parser = class_code, allow_negative_numbers = true)]
         code: u32,
         /// Look the records up in this index, which `sxf index` built from this very sheet; it may be - for standard input
         #[arg(long, value_name = "INDEX")]

@@ -1,5 +1,6 @@
 //! A sheet or an index is written to a file, whole or not at all, or to standard output.
 use crate::failure::Failure;
+use crate::standard;
 use std::fs::{self, File, FileType, Metadata, OpenOptions, Permissions};
 use std::io::{self, Write};
 use std::os::unix::fs::{fchown, FileTypeExt, MetadataExt, PermissionsExt};
@@ -16,7 +17,8 @@ pub fn whole(target: &Target<'_>, bytes: &[u8], out: &mut dyn Write) -> Result<(
     let file = target.file;
     if file == Path::new("-") {
         // Also a reader that goes is a failure here: what it has is not whole.
-        return out.write_all(bytes).and_then(|()| out.flush()).map_err(Failure::standard_output);
+        let there = standard::output_is_there();
+        return there.and_then(|()| out.write_all(bytes)).and_then(|()| out.flush()).map_err(Failure::standard_output);
     }
     written(target, bytes).map_err(|error| Failure::trouble(file, format!("cannot be written: {error}")))
 }

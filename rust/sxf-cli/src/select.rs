@@ -1,7 +1,6 @@
 //! `sxf select`: the records of a class code, each as `sxf list` prints it.
 use crate::failure::Failure;
 use crate::{input, list};
-use std::fmt::Display;
 use std::io::Write;
 use std::path::Path;
 use sxf::{Index, OtherSheet, Picks, Record, Setting, Sheet};
@@ -29,13 +28,19 @@ fn by_sheet<'a>(sheet: &'a Sheet<'_>, file: &Path, code: u32) -> Result<Vec<Reco
 /// The records that an index has under the code, unless it is seen that it is another sheet's. One that has as many entries as there are records,
 /// and what the sheet has under the code, may still have less than the sheet: nothing shows that.
 fn by_index<'a>(sheet: &'a Sheet<'_>, file: &Path, index: &Index, code: u32) -> Result<Vec<Record<'a>>, Failure> {
-    let other = |told: &dyn Display| Failure::trouble(file, format!("{told}; build it again by `sxf index`"));
+    let other =
+        |told| Failure::trouble(file, format!("the index does not belong to this sheet: {told}; build it again by `sxf index`"));
     let (entries, records) = (index.entry_count(), sheet.record_count());
     if entries != records {
-        let counts = format!("its entries are {entries}, where the sheet's records are {records}");
-        return Err(other(&format!("the index does not belong to this sheet: {counts}")));
+        return Err(other(format!("its entries are {entries}, where the sheet's records are {records}")));
     }
-    picked(sheet, index.select(code)).map_err(|told| other(&told))
+    picked(sheet, index.select(code)).map_err(|found| other(both(&found)))
+}
+
+/// What the index has, and what the sheet has under the same number.
+fn both(found: &OtherSheet) -> String {
+    let own = found.own.map_or_else(|| format!("no record {}", found.pick.record), |own| own.to_string());
+    format!("it has {}, where the sheet has {own}", found.pick)
 }
 
 fn picked<'a>(sheet: &'a Sheet<'_>, picks: Picks) -> Result<Vec<Record<'a>>, OtherSheet> {

@@ -1,7 +1,7 @@
 //! Standard input and output, and whether they are there.
 #![allow(unsafe_code)]
 use std::ffi::c_int;
-use std::fs::File;
+use std::fs::{File, Metadata};
 use std::io::{self, Read, Write};
 use std::os::fd::AsFd;
 use std::sync::atomic::{AtomicBool, Ordering};
@@ -38,6 +38,17 @@ fn open(descriptor: usize) -> io::Result<()> {
 /// Standard input, if it is there.
 pub fn input() -> io::Result<impl Read> {
     open(0).map(|()| io::stdin())
+}
+
+/// What is known of the file that standard input is.
+pub fn input_metadata() -> io::Result<Metadata> {
+    let file = open(0).and_then(|()| io::stdin().as_fd().try_clone_to_owned()).map(File::from)?;
+    file.metadata()
+}
+
+/// An error where nothing can be written to standard output. Who writes no byte learns it only by this.
+pub fn output_is_there() -> io::Result<()> {
+    StandardOutput::new().write(&[]).map(|_| ())
 }
 
 /// Standard output. Where it is not there, the first write fails. It is written as a file is, since `io::Stdout` takes an output that is not

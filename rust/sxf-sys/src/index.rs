@@ -8,7 +8,7 @@ pub const BLOCK_SIZE: usize = 512;
 /// How many entries a full block has; all but the last are full.
 pub const BLOCK_FULL: usize = 63;
 
-/// How long the index of so many records is.
+/// How long the index of so many records is, for counts of records that a sheet can have, below 2^32.
 pub const fn index_length(records: usize) -> usize {
     records.div_ceil(BLOCK_FULL) * BLOCK_SIZE
 }

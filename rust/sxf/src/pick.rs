@@ -113,7 +113,7 @@ impl Iterator for Picks {
 
 impl ExactSizeIterator for Picks {}
 
-/// A pick that is no record of the sheet at hand: the index that gave it was built from another sheet, or from this one before it was changed.
+/// A pick that is no record of the sheet at hand. An index that gave it was built from another sheet, or from this one before it was changed.
 #[derive(Clone, Copy, Debug, PartialEq, Eq)]
 pub struct OtherSheet {
     /// The pick.
@@ -124,7 +124,7 @@ pub struct OtherSheet {
 
 impl fmt::Display for OtherSheet {
     fn fmt(&self, f: &mut fmt::Formatter<'_>) -> fmt::Result {
-        write!(f, "the index does not belong to this sheet: it has {}, where the sheet has ", self.pick)?;
+        write!(f, "the pick is no record of this sheet: it is {}, where the sheet has ", self.pick)?;
         match self.own {
             Some(own) => write!(f, "{own}"),
             None => write!(f, "no record {}", self.pick.record),

@@ -214,7 +214,7 @@ impl<'a> Sheet<'a> {
     /// assert_eq!(Sheet::read(labels, Setting::Y2017)?.record_of(&pick)?.in_group(), 7);
     ///
     /// let other = Sheet::read(q, Setting::Y2017)?.record_of(&pick).unwrap_err();
-    /// let told = "the index does not belong to this sheet: it has record 0 at 452 (0x1c4), code 91000000, localisation 3, \
+    /// let told = "the pick is no record of this sheet: it is record 0 at 452 (0x1c4), code 91000000, localisation 3, \
     ///             where the sheet has record 0 at 452 (0x1c4), code 0, localisation 2";
     /// assert_eq!(other.to_string(), told);
     /// # Ok::<(), Box<dyn std::error::Error>>(())

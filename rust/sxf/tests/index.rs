@@ -250,8 +250,8 @@ fn a_pick_of_another_sheet_is_told() {
         let other = OtherSheet { pick, own: None };
         // Those after it are found all the same.
         assert_eq!(found(&sheet, [own, pick, first]), [Ok(1), Err(other), Ok(0)]);
-        let told = format!("it has record {record} at 488 (0x1e8), code 7, localisation 1, where the sheet has no record {record}");
-        assert_eq!(other.to_string(), format!("the index does not belong to this sheet: {told}"));
+        let told = format!("it is record {record} at 488 (0x1e8), code 7, localisation 1, where the sheet has no record {record}");
+        assert_eq!(other.to_string(), format!("the pick is no record of this sheet: {told}"));
     }
 }
 

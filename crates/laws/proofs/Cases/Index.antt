@@ -72,6 +72,13 @@ blocks : (indexedOf (entriesIn (first ++ second)) ≡ Index.Accepted (record { e
     × (entriesIn (first ++ first) ≡ refused BAD-BLOCK 512 0) × (entriesIn second ≡ refused BAD-BLOCK 0 0)
     × (entriesIn (first ++ take 511 second) ≡ refused BAD-BLOCK 512 0) × (entriesIn (first ++ second ++ 0 ∷ []) ≡ refused BAD-BLOCK 512 0)
     × (entriesIn (threeIndex ++ second) ≡ refused BAD-BLOCK 0 0) × (entriesIn (first ++ block 1 1 (replicate 8 2) 0 19) ≡ refused BAD-BLOCK 512 0)
-    × (entriesIn (first ++ 0 ∷ []) ≡ refused BAD-BLOCK 512 0)
+    × (entriesIn (first ++ 0 ∷ []) ≡ refused BAD-BLOCK 512 0) × (entriesIn (first ++ block 1 0 [] 0 1) ≡ refused BAD-BLOCK 512 0)
 unfolding computing
-blocks = (refl, refl, refl, refl, refl, refl, refl, refl, refl, refl)
+blocks = (refl, refl, refl, refl, refl, refl, refl, refl, refl, refl, refl)
+
+-- the hit in the second block is entry 63, and of the third byte of a place nothing is lost
+hits : (selected 0x02020202 (first ++ second) ≡ given (63 ∷ 0x020202 ∷ 2 ∷ []))
+    × (entryRows (block 0 1 (replicate 8 255) 0 2041) ≡ given (0xFFFFFFFF ∷ 0xFFFFFF ∷ 255 ∷ []))
+    × (selected 0xFFFFFFFF (block 0 1 (replicate 8 255) 0 2041) ≡ given (0 ∷ 0xFFFFFF ∷ 255 ∷ []))
+unfolding computing
+hits = (refl, refl, refl)

@@ -1,10 +1,10 @@
 -- One block: what is read at the head of the bytes is what is stored there, both ways. A block is a row of five fields (Base/Rows).
-use mathlib.Core.Bool.{Bool, true, false, _&&_}
+use mathlib.Core.Bool.{Bool, true, false}
 use mathlib.Core.List.{List, [], _∷_, _++_, append-assoc}
-use mathlib.Core.Path.{_≡_, refl, ap, sym, _∙_, subst}
-use Prim.Native.Nat.{ℕ, _+_, _-_, _*_, _^_, _≤_, _<_}
+use mathlib.Core.Path.{_≡_, refl, ap, sym, _∙_}
+use Prim.Native.Nat.{ℕ, _-_, _*_, _^_, _≤_, _<_}
 use borrow.Author.Tests.{leb-true, le-leb, eqb-true, eq-eqb}
-use lib.Dec.{leb, eqb}
+use lib.Dec.{leb}
 use lib.ListN.{length, take, drop, replicate, length-append, length-drop, length-replicate}
 use lib.Seq.{take-at, drop-at}
 use native.Mathlib.Omega.{arith}
@@ -12,7 +12,7 @@ use Rattle.layout.specs.Bytes.{All, flat, Bytes, numberIn, bytesIn, stored, zer
 use Rattle.layout.specs.Fields.Block
 use Rattle.layout.specs.Fields.Entry as Field
 use Rattle.layout.specs.Index.Blocks.{encodeEntry, encodeUnsummed, blockSum, encodeBlock, FineEntry}
-use Rattle.layout.specs.Index.Reading.{entriesFrom, countIn, blockEntries, goodCount, unused, goodBlock}
+use Rattle.layout.specs.Index.Reading.{countIn, blockEntries, goodCount, unused, goodBlock}
 use Rattle.layout.specs.declared.Entry.{Entry}
 use Rattle.laws.proofs.Base.Lists.{_&_, both-true}
 use Rattle.laws.proofs.Base.Rows.{Column, num, raw, Vals, rowIn, putRow, FitRow, InLine, row-back, row-on}

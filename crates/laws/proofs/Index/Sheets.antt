@@ -1,23 +1,21 @@
 -- The entries of a sheet's records: they are fine, and picking from them is picking from the records.
 use mathlib.Core.List.{List, [], _∷_, _++_}
-use mathlib.Core.Path.{_≡_, refl, ap, sym, _∙_}
-use Prim.Native.Nat.{ℕ, zero, suc, _+_, _*_, _^_, _≤_, _<_}
+use mathlib.Core.Path.{_≡_, refl, ap}
+use Prim.Native.Nat.{ℕ, suc, _+_, _≤_}
 use lib.Dec.{eqb}
 use lib.ListN.{length, length-append}
 use native.Mathlib.Omega.{arith}
 use Rattle.layout.specs.Answers.Calls.{reading}
 use Rattle.layout.specs.Bytes.{All, Bytes, flat}
-use Rattle.layout.specs.Fields.Block
 use Rattle.layout.specs.Fields.{limit}
-use Rattle.layout.specs.Index.Blocks.{begun, FineEntry, FineEntries}
+use Rattle.layout.specs.Index.Blocks.{FineEntry, FineEntries}
 use Rattle.layout.specs.Index.Selecting.{entriesOf, each, pick, pickEntry, pickRecords}
-use Rattle.layout.specs.Layout.Encode.{encodeRecord, encode}
+use Rattle.layout.specs.Layout.Encode.{encodeRecord}
 use Rattle.layout.specs.Layout.Fine.{FineRecord}
 use Rattle.layout.specs.Reading.Sheets.{start}
 use Rattle.layout.specs.Shared.Reference.{localisation}
 use Rattle.layout.specs.Sheet.{Record, Sheet}
 use Rattle.layout.specs.Walk.{given}
-use Rattle.layout.specs.declared.Entry.{Entry}
 use Rattle.laws.proofs.Called.{reading-sound}
 use Rattle.laws.proofs.Encoding.Lengths.{length-record, length-encode, count-records}
 

@@ -27,7 +27,7 @@ ending = field (after entries) 2
 abbrev pub ending-is : ℕ
 ending-is = 0
 
--- "the sum of the first 510 bytes modulo 65536"
+-- where the sum stands
 abbrev pub sum : Field
 sum = field (after ending) 2
 

@@ -1,7 +1,7 @@
 -- The bytes of a code index. (02, request 3: "Keep a file of 512-byte blocks"; "Entries follow record order, blocks are full except the last, unused
 -- entries are zero, and an empty sheet has no blocks.")
 use Prim.Native.Nat.{ℕ, zero, suc, _+_, _-_, _*_, _/_, _%_, _^_, _≤_}
-use mathlib.Core.List.{List, [], _∷_, _++_}
+use mathlib.Core.List.{List, [], _++_}
 use lib.ListN.{length, take, drop, replicate}
 use Rattle.layout.specs.Bytes.{All, flat, stored, total}
 use Rattle.layout.specs.Fields.Block
@@ -9,11 +9,10 @@ use Rattle.layout.specs.Fields.Entry as Field
 use Rattle.layout.specs.Layout.Fine.{Fits}
 use Rattle.layout.specs.declared.Entry.{Entry}
 
--- An entry has of a record its class code, its place in the sheet and its localisation.
 unfoldable pub encodeEntry : Entry → List ℕ
 encodeEntry e = stored Field.code (e .code) ++ stored Field.place (e .place) ++ stored Field.localisation (e .localisation)
 
--- the first 510 bytes of a block: its number, and its entries with zeros for those that are not used
+-- the first 510 bytes of a block: its number, its count, its entries, zeros for those that are not used, and the two bytes before the sum
 unfoldable pub encodeUnsummed : ℕ → List Entry → List ℕ
 encodeUnsummed number es =
     stored Block.number number
@@ -29,7 +28,7 @@ blockSum xs = total xs % 65536
 unfoldable pub encodeBlock : ℕ → List Entry → List ℕ
 encodeBlock number es = encodeUnsummed number es ++ stored Block.sum (blockSum (encodeUnsummed number es))
 
--- so many blocks, of which the first has a number
+-- n blocks, numbered from `number` on
 unfoldable pub encodeBlocks : ℕ → ℕ → List Entry → List ℕ
 encodeBlocks zero number es = []
 encodeBlocks (suc n) number es = encodeBlock number (take Block.full es) ++ encodeBlocks n (suc number) (drop Block.full es)

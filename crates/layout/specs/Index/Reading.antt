@@ -30,7 +30,7 @@ countIn xs = numberIn Block.count xs
 unfoldable pub blockEntries : List ℕ → List Entry
 blockEntries xs = entriesFrom (countIn xs) (bytesIn Block.entries xs)
 
--- the bytes that they leave
+-- the bytes of the 63 entries that are not used
 abbrev pub unused : List ℕ → List ℕ
 unused xs = drop (Field.size * countIn xs) (bytesIn Block.entries xs)
 
@@ -52,7 +52,7 @@ goodBlock number xs =
 unfoldable pub blockIn : ℕ → List ℕ → Answer (List Entry)
 blockIn number xs = cond (goodBlock number xs) (given (blockEntries xs)) (refused BAD-BLOCK (Block.size * number) 0)
 
--- so many blocks, of which the first has a number: "blocks in order"
+-- n blocks, numbered from `number` on: "blocks in order"
 unfoldable pub blocksIn : ℕ → ℕ → List ℕ → Answer (List Entry)
 blocksIn zero number xs = given []
 blocksIn (suc n) number xs =

@@ -22,7 +22,7 @@ entriesOf place [] = []
 entriesOf place (r ∷ rs) =
     record { code = r .code; place = place; localisation = localisation (r .reference) } ∷ entriesOf (place + length (encodeRecord r)) rs
 
--- the index that is built: "The sheet's own" refusals come first
+-- the index that is built: "the sheet's own" refusals come first
 unfoldable pub indexOf : ℕ → List ℕ → Answer (List ℕ)
 indexOf year s = andThen (reading year s) (λ t. given (encodeIndex (entriesOf start (t .records))))
 

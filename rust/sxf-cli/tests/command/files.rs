@@ -211,7 +211,8 @@ fn a_closed_standard_output_is_a_failure() {
         shell.args(["-c", &format!("exec \"$@\" {redirected}"), "sh", env!("CARGO_BIN_EXE_sxf")]).args(words);
         shell.current_dir(&folder.0).output().expect("sh runs")
     };
-    let q = sample("Q").to_string_lossy().into_owned();
+    // The index of E has no byte, and is lost all the same.
+    let [e, q] = ["E", "Q"].map(|name| sample(name).to_string_lossy().into_owned());
     for words in [
         &["list", &q][..],
         &["check", &q],
@@ -220,6 +221,7 @@ fn a_closed_standard_output_is_a_failure() {
         &["years", &q],
         &["write", "q.json", "-o", "-"],
         &["index", &q, "-o", "-"],
+        &["index", &e, "-o", "-"],
         &["select", &q, "--code", "0"],
         &["--help"],
     ] {

@@ -118,6 +118,26 @@ fn a_sheet_is_never_replaced_by_its_index() {
     assert_eq!(status(&indexed(&sheet, &folder.file("p.sxf"), &["--force"])), 0);
 }
 
+/// The sheet may also be what standard input is. Which file comes through a pipe is not known, so that one is replaced.
+#[test]
+fn a_sheet_on_standard_input_is_never_replaced_by_its_index() {
+    let folder = Folder::new("index-input");
+    let (sheet, link) = (folder.file("q.sxf"), folder.file("link.sxf"));
+    fs::copy(sample("Q"), &sheet).expect("a copy");
+    symlink("q.sxf", &link).expect("a link");
+    let whole = fs::read(&sheet).expect("the sheet");
+    for (target, more) in [(&sheet, &[][..]), (&sheet, &["--force"]), (&link, &["--force"])] {
+        let input = fs::File::open(&sheet).expect("the sheet");
+        let output = sxf(&["index", "-", "-o"]).arg(target).args(more).stdin(input).output().expect("sxf runs");
+        let words = format!("sxf: {}: cannot be written: it is the sheet itself\n", target.display());
+        assert_eq!((status(&output), told(&output)), (2, words));
+        assert!(fs::read(&sheet).expect("the sheet") == whole);
+    }
+    assert_eq!(folder.names(), ["link.sxf", "q.sxf"]);
+    let piped = fed(sxf(&["index", "-", "--force", "-o"]).arg(&sheet), &whole);
+    assert_eq!((status(&piped), fs::read(&sheet).expect("an index")), (0, built(&sample("Q"))));
+}
+
 /// An index that nobody takes is not written.
 #[test]
 fn a_reader_that_goes_is_a_failure_of_an_index() {
@@ -309,9 +329,11 @@ fn sheet_or_index_may_come_on_standard_input() {
 #[test]
 fn a_code_is_a_whole_number() {
     for code in ["4294967296", "-1", "0x10", "1.0", "well", ""] {
-        let output = on("select", &sample("Q"), &[&format!("--code={code}")]);
-        assert_eq!(status(&output), 2, "{code}");
-        assert!(told(&output).contains("not a class code; they are whole numbers, 0 to 4294967295"), "{}", told(&output));
+        for words in [&[&*format!("--code={code}")][..], &["--code", code]] {
+            let output = on("select", &sample("Q"), words);
+            assert_eq!(status(&output), 2, "{words:?}");
+            assert!(told(&output).contains("not a class code; they are whole numbers, 0 to 4294967295"), "{}", told(&output));
+        }
     }
     for words in [&["select", "x"][..], &["index", "x"], &["select", "--code", "0"], &["index", "-o", "x"]] {
         let output = sxf(words).output().expect("sxf runs");
@@ -328,6 +350,8 @@ fn help_says_what_an_index_cannot_tell() {
                     change";
         assert!(help(word).contains(told), "{}", help(word));
     }
+    let piped = "never over the sheet that FILE names or that standard input is; a sheet that comes through a pipe is not known";
+    assert!(help("index").contains(piped), "{}", help("index"));
     assert!(help("index").contains("`sxf index FILE -o - | cmp - INDEX` tells whether it is that of the sheet"));
     assert!(help("select").contains("It is not noticed where the index has a record of the code under another one"));
 }
