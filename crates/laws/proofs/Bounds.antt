@@ -43,7 +43,7 @@ sum-twice f [] = refl
 sum-twice f (a ∷ l) = omega (arith, sum-twice f l)
 
 -- an element has two bytes at least
-two-bytes : (size float three : Bool) → 2 * length (elementWidths size float three) ≤ pointBytes size float three
+pub two-bytes : (size float three : Bool) → 2 * length (elementWidths size float three) ≤ pointBytes size float three
 two-bytes false false false = omega arith
 two-bytes false true false = omega arith
 two-bytes true false false = omega arith

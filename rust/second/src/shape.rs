@@ -2,28 +2,33 @@
 
 use crate::bytes::low_bytes;
 
-/// The widths of a point's elements in bytes.
+/// The widths of a point's elements, and of the point, in bytes.
 #[derive(Clone, Copy)]
 pub(crate) struct Shape {
     /// Of each of the two planar elements: 2, 4 or 8.
     planar: u8,
     /// Of the height: 4 or 8, and 0 in two dimensions.
     height: u8,
+    /// Of the point.
+    point: u8,
 }
 
 impl Shape {
+    /// "So a point has 4, 8, 8 or 16 bytes in two dimensions and 8, 12, 12 or
+    /// 24 in three." Listed here, while the archive works them out (02, request
+    /// 4), so that a mistake in its rule shows.
     pub(crate) fn new(large: bool, floating: bool, three_dimensions: bool) -> Shape {
-        let planar = match (large, floating) {
-            (false, false) => 2,
-            (true, true) => 8,
-            _ => 4,
+        let (planar, height, point) = match (three_dimensions, large, floating) {
+            (false, false, false) => (2, 0, 4),
+            (false, false, true) => (4, 0, 8),
+            (false, true, false) => (4, 0, 8),
+            (false, true, true) => (8, 0, 16),
+            (true, false, false) => (2, 4, 8),
+            (true, false, true) => (4, 4, 12),
+            (true, true, false) => (4, 4, 12),
+            (true, true, true) => (8, 8, 24),
         };
-        let height = match (three_dimensions, planar) {
-            (false, _) => 0,
-            (true, 8) => 8,
-            (true, _) => 4,
-        };
-        Shape { planar, height }
+        Shape { planar, height, point }
     }
 
     /// Bytes of X, and of Y.
@@ -38,7 +43,7 @@ impl Shape {
 
     /// Bytes of one point.
     pub(crate) fn point_bytes(self) -> u64 {
-        2 * u64::from(self.planar) + u64::from(self.height)
+        u64::from(self.point)
     }
 
     /// Elements of one point.

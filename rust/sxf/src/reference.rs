@@ -165,7 +165,7 @@ impl Reference {
         2 + usize::from(self.height().is_some())
     }
 
-    /// How many bytes a point has.
+    /// How many bytes a point has: twice the planar element plus the height, which is nothing in two dimensions.
     pub fn point_size(self) -> usize {
         2 * self.planar().width() + self.height().map_or(0, ElementKind::width)
     }

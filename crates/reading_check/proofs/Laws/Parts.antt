@@ -25,6 +25,7 @@ use Rattle.layout.specs.Sheet.{Reference}
 use Rattle.layout.specs.Writing.Tables.{flattenPart}
 use Rattle.layout.specs.Refusals.{COUNT, LENGTH}
 use Rattle.laws.proofs.Base.Numbers.{length-numbers, length-repeat}
+use Rattle.laws.proofs.Bounds.{two-bytes}
 
 elements-are : (r : Reference) (count : ℕ) (xs : List ℕ)
     → length (numbers (repeat count (widths r)) xs) ≡ count * dimensions (threeDimensions r)
@@ -35,14 +36,7 @@ elements-are r count xs =
 
 -- a point has no more elements than bytes
 point-over : (size float three : Bool) → dimensions three ≤ pointBytes size float three
-point-over false false false = omega arith
-point-over false true false = omega arith
-point-over true false false = omega arith
-point-over true true false = omega arith
-point-over false false true = omega arith
-point-over false true true = omega arith
-point-over true false true = omega arith
-point-over true true true = omega arith
+point-over size float three = omega (arith, two-bytes size float three, widths-count size float three)
 
 pub elements-within : (s : Shape) (count k elements : ℕ) → k ≡ pointOf s → elements ≡ count * dimensions (s .three) → elements ≤ count * k
 elements-within s count k elements e f = rw (f, e) (mul-le-mul-left count (point-over (s .size) (s .float) (s .three)))
