@@ -362,6 +362,75 @@ static void two_blocks(void)
     SAME(unselected, SXF_BAD_BLOCK, SXF_BLOCK_SIZE, 0, 0);
 }
 
+/* Places that sxf.h does not name: the descriptor's identifier, its count of records, and a total length, counted from its record's start. */
+enum {
+    DESCRIPTOR_AT = 400,
+    COUNT_AT = 440,
+    TOTAL_AT = 4
+};
+
+/* Of the sheet of many records the first with a code, from header to header, and its frame. The sheet is not checked: once its frame's code is
+   changed its sum is wrong, and all is found as before. */
+static void hops(void)
+{
+    sxf_hop first = sxf_first_with(many, MANY_LENGTH, 0), third = sxf_first_with(many, MANY_LENGTH, 2);
+    sxf_hop last = sxf_first_with(many, MANY_LENGTH, LAST_CODE), none = sxf_first_with(many, MANY_LENGTH, 3);
+    SAME(first, 0, 0, 0, 1, 0, SXF_RECORDS_AT, MANY_TOTAL, 1);
+    SAME(third, 0, 0, 0, 1, 2, SXF_RECORDS_AT + 2 * MANY_TOTAL, MANY_TOTAL, 3);
+    SAME(last, 0, 0, 0, 1, MANY - 1, LAST_AT, MANY_TOTAL, MANY);
+    SAME(none, 0, 0, 0, 0, 0, 0, 0, MANY);
+    /* the same by the names of its fields */
+    uint64_t named[] = { last.found, last.record, last.at, last.total, last.looked };
+    SAME(named, 1, MANY - 1, LAST_AT, MANY_TOTAL, MANY);
+    /* the frame's code is 0, which the first record has; then the last record's, and then one that differs from it in the highest byte */
+    sxf_hop frame_0 = sxf_frame_of(many, MANY_LENGTH);
+    SAME(frame_0, 0, 0, 0, 1, 0, SXF_RECORDS_AT, MANY_TOTAL, 1);
+    many[SXF_FRAME_AT] = LAST_CODE;
+    sxf_checked changed = sxf_check(many, MANY_LENGTH, 2017);
+    SAME(changed, SXF_SUM, 12, 0, 0, 0, 0, 0, 0);
+    sxf_hop frame = sxf_frame_of(many, MANY_LENGTH);
+    SAME(frame, 0, 0, 0, 1, MANY - 1, LAST_AT, MANY_TOTAL, MANY);
+    many[SXF_FRAME_AT + 3] = 1;
+    sxf_hop no_frame = sxf_frame_of(many, MANY_LENGTH);
+    SAME(no_frame, 0, 0, 0, 0, 0, 0, 0, MANY);
+}
+
+/* What hopping refuses: first of the sheet, then of the headers, in their order, before their codes are looked at. */
+static void refused_hops(void)
+{
+    static const uint8_t over[SXF_LIMIT + 1];
+    sxf_hop too_long = sxf_first_with(over, SXF_LIMIT + 1, 0), other = sxf_frame_of(over, SXF_LIMIT);
+    sxf_hop short_451 = sxf_first_with(many, 451, 0), no_bytes = sxf_frame_of(many, 0);
+    SAME(too_long, SXF_TOO_LONG, 0, 0, 0, 0, 0, 0, 0);
+    SAME(other, SXF_NOT_SXF, 0, 0, 0, 0, 0, 0, 0);
+    SAME(short_451, SXF_SHORT, 0, 0, 0, 0, 0, 0, 0);
+    SAME(no_bytes, SXF_SHORT, 0, 0, 0, 0, 0, 0, 0);
+    many[DESCRIPTOR_AT] ^= 1;
+    sxf_hop descriptor = sxf_first_with(many, MANY_LENGTH, 0);
+    SAME(descriptor, SXF_NOT_SXF, DESCRIPTOR_AT, 0, 0, 0, 0, 0, 0);
+    many[DESCRIPTOR_AT] ^= 1;
+    /* the last header: too few bytes for it; a total length of 33 where 32 bytes are left; one of 31; another identifier, which comes before that */
+    sxf_hop cut = sxf_first_with(many, MANY_LENGTH - 1, LAST_CODE);
+    SAME(cut, SXF_SHORT, LAST_AT, 0, 0, 0, 0, 0, 0);
+    many[LAST_AT + TOTAL_AT] = MANY_TOTAL + 1;
+    sxf_hop past_end = sxf_first_with(many, MANY_LENGTH, LAST_CODE);
+    SAME(past_end, SXF_SHORT, LAST_AT + TOTAL_AT, 0, 0, 0, 0, 0, 0);
+    many[LAST_AT + TOTAL_AT] = MANY_TOTAL - 1;
+    sxf_hop small = sxf_first_with(many, MANY_LENGTH, LAST_CODE), before = sxf_first_with(many, MANY_LENGTH, 2);
+    SAME(small, SXF_LENGTH, LAST_AT + TOTAL_AT, 0, 0, 0, 0, 0, 0);
+    SAME(before, 0, 0, 0, 1, 2, SXF_RECORDS_AT + 2 * MANY_TOTAL, MANY_TOTAL, 3);
+    many[LAST_AT] ^= 1;
+    sxf_hop no_record = sxf_first_with(many, MANY_LENGTH, LAST_CODE);
+    SAME(no_record, SXF_NOT_SXF, LAST_AT, 0, 0, 0, 0, 0, 0);
+    /* as many records as four bytes can count: the headers end before them, where the sheet does */
+    many[LAST_AT] ^= 1;
+    many[LAST_AT + TOTAL_AT] = MANY_TOTAL;
+    memset(many + COUNT_AT, 0xFF, 4);
+    sxf_hop counted = sxf_first_with(many, MANY_LENGTH, LAST_CODE), uncounted = sxf_first_with(many, MANY_LENGTH, 3);
+    SAME(counted, 0, 0, 0, 1, MANY - 1, LAST_AT, MANY_TOTAL, MANY);
+    SAME(uncounted, SXF_SHORT, MANY_LENGTH, 0, 0, 0, 0, 0, 0);
+}
+
 int main(void)
 {
     rest[0] = 3;
@@ -378,6 +447,8 @@ int main(void)
     texts();
     one_block();
     two_blocks();
+    hops();
+    refused_hops();
     printf("calls: %d answers, %d not as stated\n", answers, wrong);
     return wrong != 0;
 }

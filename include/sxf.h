@@ -78,6 +78,7 @@ enum {
     SXF_DESIGNATION_AT = 28,
     SXF_TITLE_AT = 64,
     SXF_REST_AT = 96,
+    SXF_FRAME_AT = 348,   /* the class code of the frame, four bytes */
     SXF_DESIGNATION2_AT = 408,
     SXF_CARRIED_AT = 444,
     SXF_RECORDS_AT = 452, /* the first record, where there is one */
@@ -342,6 +343,35 @@ sxf_written sxf_index_select(const uint8_t *index, size_t index_len, uint32_t co
 
 sxf_written sxf_select(const uint8_t *sheet, size_t sheet_len, uint32_t year, uint32_t code, uint64_t *picks, size_t picks_len);
 
+/*
+ * The first record with a wanted code, without reading the sheet: from header to header, up to the first hit or the last counted record. A header is
+ * the 32 bytes that a record begins with. The whole sheet is lent, and only its first 452 bytes and the headers on the way are touched, so that
+ * the time goes with the headers looked at.
+ *
+ * Where there is such a record, found is 1, record is its number, from 0, at is where it starts and total is its total length; the record lies within
+ * the sheet. Else these four are 0; ask number first, since a refusal has found 0 too. looked is how many headers were looked at: record + 1, or
+ * without a hit the count of records that the sheet states. What the record holds is told by the calls that check the sheet: sxf_record_at
+ * takes its number.
+ *
+ * The sheet is not checked, and no year is asked for. On a sheet that sxf_check accepts at some year, it is the first record with that code that
+ * reading the sheet gives, or there is none. On other bytes the answer rests only on the sheet's length, its two identifiers (bytes 0 to 3 and 400 to 403),
+ * its count of records (440 to 443) and the headers looked at. Of these only identifiers and the range of total lengths are checked: a damaged
+ * count, code or length can give another record, or none, without a refusal.
+ *
+ * Refused are, in this order, a sheet over SXF_LIMIT bytes, SXF_TOO_LONG at 0, or under SXF_RECORDS_AT, SXF_SHORT at 0; another identifier at 0 or
+ * at 400, SXF_NOT_SXF; then header by header, before its code is looked at: under 32 bytes left, SXF_SHORT, or another identifier, SXF_NOT_SXF, both
+ * at the record's start; a total length under 32, SXF_LENGTH, or past the end, SXF_SHORT, both at 4 bytes after it.
+ */
+typedef struct {
+    uint64_t number, place, year, found, record, at, total, looked;
+} sxf_hop;
+
+sxf_hop sxf_first_with(const uint8_t *sheet, size_t sheet_len, uint32_t code);
+
+/* The frame of the sheet: the same with the code that stands in the four bytes at SXF_FRAME_AT, lowest first, on which the answer rests too. 0 is a
+   code like any other: of a sheet that has 0 there, since it names no frame, the first record of code 0 is answered. */
+sxf_hop sxf_frame_of(const uint8_t *sheet, size_t sheet_len);
+
 #ifdef __cplusplus
 }
 #endif
@@ -364,6 +394,7 @@ SXF_SIZE(sxf_visibility, 3);
 SXF_SIZE(sxf_value, 7);
 SXF_SIZE(sxf_written, 4);
 SXF_SIZE(sxf_index, 5);
+SXF_SIZE(sxf_hop, 8);
 SXF_SIZE(size_t, 1);
 #undef SXF_SIZE
 

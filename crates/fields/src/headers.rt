@@ -1,12 +1,19 @@
-// The header of a record, taken apart: every reader of a record asks here. (01, Record)
+// The header of a record, taken apart, and the checks on its identifier and total length: every reader of a record asks here. (01, Record)
 ghost use mathlib.Core.Path.{_≡_};
-ghost use Prim.Native.Nat.{_+_, _≤_};
+ghost use Prim.Native.Nat.{ℕ, _+_, _≤_, _<_, _^_};
 ghost use lib.ListN.{length, drop};
 ghost use Rattle.fields.specs.Headers.{headerOf};
+ghost use Rattle.fields.specs.Steps.{Next};
+ghost use Rattle.fields.specs.declared.steps.Step.the-variants.{Fine};
 ghost use Rattle.layout.specs.Fields.Header as Field;
-ghost use Rattle.layout.specs.Reading.Records.{headerIn};
+ghost use Rattle.layout.specs.Reading.Records.{headerIn, totalChecks};
 use crate::numbers;
+use crate::steps::Step;
+use crate::steps::demand;
 use layout::header;
+use layout::refusals::LENGTH;
+use layout::refusals::NOT_SXF;
+use layout::refusals::SHORT;
 
 // b20 to b22 are the reference bytes.
 pub struct Header {
@@ -45,4 +52,21 @@ pub fn header_at(xs: &[u8], at: usize) -> Header
         subobjects: numbers::u16_at(xs, at + header::SUBOBJECTS),
         points: numbers::u16_at(xs, at + header::POINTS),
     }
+}
+
+// The checks on identifier and total length of a header at p, with so many bytes left from there on.
+pub fn total_checks(h: Header, p: usize, left: usize) -> Step
+    requires { ⌜ p < 2 ^ 32 ⌝ }
+    ensures { λ r. ⌜ ((y : ℕ) → Next Fine y p (totalChecks left (headerOf h)) r) ⌝ }
+{
+    let a = demand(
+        Step::Fine,
+        h.identifier == header::IDENTIFIER_IS,
+        NOT_SXF,
+        p,
+        header::IDENTIFIER,
+    );
+    let a = demand(a, header::SIZE_U32 <= h.total, LENGTH, p, header::TOTAL);
+    let total = h.total as usize;
+    demand(a, total <= left, SHORT, p, header::TOTAL)
 }

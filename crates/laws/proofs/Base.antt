@@ -6,5 +6,6 @@ pub mod Chains
 pub mod Readers
 pub mod Valued
 pub mod Numbers
+pub mod Parts
 pub mod Texts
 pub mod Rows

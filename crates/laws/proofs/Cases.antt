@@ -5,3 +5,4 @@ pub mod Writing
 pub mod Answers
 pub mod Shores
 pub mod Index
+pub mod Hop

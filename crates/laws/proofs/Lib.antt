@@ -6,6 +6,7 @@ pub mod Again
 pub mod Bounds
 pub mod Codings
 pub mod Index
+pub mod Hop
 pub mod Marked
 pub mod Cases
 pub mod Samples

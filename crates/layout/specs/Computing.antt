@@ -1,9 +1,10 @@
 -- A proof that computes with the definitions says `unfolding computing`: the walks, the layout and the answers then unfold.
 use Rattle.layout.specs.Answers.Calls.{reading, unfolded, roomy, asked, written}
-use Rattle.layout.specs.Answers.Enums.{checkedOf, foundOf, headedOf, writtenOf, indexedOf, unitIn, cornersIn}
+use Rattle.layout.specs.Answers.Enums.{checkedOf, foundOf, headedOf, writtenOf, indexedOf, hoppedOf, unitIn, cornersIn}
 use Rattle.layout.specs.Answers.Corners.{cornersOf}
 use Rattle.layout.specs.Answers.Units.{unitOf, numberOf}
 use Rattle.layout.specs.Answers.Values.{semanticValue}
+use Rattle.layout.specs.Hop.{hopChecks, hopFrom, startChecks, hopWalk, hop, frame, passedFrom, passed}
 use Rattle.layout.specs.Index.Blocks.{encodeEntry, encodeUnsummed, encodeBlock, encodeBlocks, encodeIndex}
 use Rattle.layout.specs.Index.Reading.{entriesFrom, blockEntries, goodBlock, blockIn, blocksIn, entriesIn}
 use Rattle.layout.specs.Index.Selecting.{indexOf, each, selected, picked, entryRows}
@@ -30,5 +31,6 @@ unfolding restChecks carriedChecks byte20 byte21 byte22 referenceChecks visibili
     flattenPart flattenItem flattenRecord flatten itemRules takeItem firstRules laterRules elementRules textRules takePart roomRules nameRules countRules
     rowRules takeInside rowWalk endRules rowsWalk titleRules headWalk limitRules tableWalk reading unfolded roomy asked written checkedOf foundOf headedOf
     writtenOf indexedOf unitIn cornersIn cornersOf unitOf numberOf semanticValue encodeEntry encodeUnsummed encodeBlock encodeBlocks encodeIndex entriesFrom
-    blockEntries goodBlock blockIn blocksIn entriesIn indexOf each selected picked entryRows
+    blockEntries goodBlock blockIn blocksIn entriesIn indexOf each selected picked entryRows hopChecks hopFrom startChecks hopWalk hop frame passedFrom
+    passed hoppedOf
 computing = tt

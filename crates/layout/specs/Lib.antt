@@ -27,4 +27,5 @@ pub mod Writing
 pub mod Answers
 pub mod Codings
 pub mod Index
+pub mod Hop
 pub mod Computing

@@ -98,6 +98,21 @@ pub enum Indexed {
     Refused(Refusal),
 }
 
+// What hopping from header to header finds: whether there is a record of the code that is asked for; its number from 0, where it starts and its
+// total length, which are 0 where there is none; and how many headers were looked at.
+pub struct Hop {
+    pub found: bool,
+    pub record: u32,
+    pub place: usize,
+    pub total: usize,
+    pub looked: u32,
+}
+
+pub enum Hopped {
+    Hop(Hop),
+    Refused(Refusal),
+}
+
 // What each call answers that writes one slice (a sheet, a text that is turned, an index, a selection): how much of it, from its start, was
 // written.
 pub enum Written {

@@ -61,6 +61,8 @@ pub const SE_X: usize = 152;
 
 pub const SE_Y: usize = 160;
 
+pub const FRAME: usize = 348;
+
 pub const NORTH: usize = 384;
 
 pub const EAST: usize = 392;

@@ -35,6 +35,20 @@ pub struct SxfIndex {
     pub blocks: u64,
 }
 
+// number 0: found is 1 where there is a record of the code, and 0 where there is none; then its number, `at` and total are 0 too. looked is how
+// many headers were looked at. Otherwise the refusal, and the rest is 0.
+#[repr(C)]
+pub struct SxfHop {
+    pub number: u64,
+    pub place: u64,
+    pub year: u64,
+    pub found: u64,
+    pub record: u64,
+    pub at: u64,
+    pub total: u64,
+    pub looked: u64,
+}
+
 // number 0: the record that starts at `at`. Otherwise the refusal, and the rest is 0.
 #[repr(C)]
 pub struct SxfRecord {

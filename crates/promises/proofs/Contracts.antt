@@ -12,6 +12,10 @@ use Rattle.codings.proofs.utf16.from_utf16.Kinds as from-utf16-kinds
 use Rattle.codings.proofs.utf16.from_utf16.Reads as from-utf16
 use Rattle.codings.proofs.utf16.to_utf16.Kinds as to-utf16-kinds
 use Rattle.codings.proofs.utf16.to_utf16.Reads as to-utf16
+use Rattle.hop.proofs.sheets.first_with.Kinds as first-with-kinds
+use Rattle.hop.proofs.sheets.first_with.Reads as first-with
+use Rattle.hop.proofs.sheets.frame_of.Kinds as frame-of-kinds
+use Rattle.hop.proofs.sheets.frame_of.Reads as frame-of
 use Rattle.index.proofs.files.check.Kinds as index-check-kinds
 use Rattle.index.proofs.files.check.Reads as index-check
 use Rattle.index.proofs.files.read.Kinds as index-read-kinds
@@ -28,9 +32,10 @@ use Rattle.index.proofs.sheets.select_by_year.Kinds as select-by-year-kinds
 use Rattle.index.proofs.sheets.select_by_year.Reads as select-by-year
 use Rattle.layout.specs.Answers.Calls.{reading, roomy, unfolded, asked, written, roomed, lent}
 use Rattle.layout.specs.Answers.Coordinates.{measureOf}
-use Rattle.layout.specs.Answers.Enums.{checkedOf, foundOf, headedOf, unitIn, cornersIn, writtenOf, indexedOf}
+use Rattle.layout.specs.Answers.Enums.{checkedOf, foundOf, headedOf, unitIn, cornersIn, writtenOf, indexedOf, hoppedOf}
 use Rattle.layout.specs.Answers.Lent.{headOf, rooms, theNumbers, theElements, theBytes, theSheet, theTurned, theGiven}
 use Rattle.layout.specs.Codings.Turning.{toUtf16, fromUtf16}
+use Rattle.layout.specs.Hop.{hop, frame}
 use Rattle.layout.specs.Index.Reading.{entriesIn}
 use Rattle.layout.specs.Index.Selecting.{indexOf, selected, picked, entryRows}
 use Rattle.layout.specs.Sheet.{Head, Table}
@@ -41,6 +46,7 @@ use Rattle.layout.specs.declared.Corners.{Corners}
 use Rattle.layout.specs.declared.Dimension.{Dimension}
 use Rattle.layout.specs.declared.Found.{Found}
 use Rattle.layout.specs.declared.Headed.{Headed}
+use Rattle.layout.specs.declared.Hopped.{Hopped}
 use Rattle.layout.specs.declared.Indexed.{Indexed}
 use Rattle.layout.specs.declared.UnitAnswer.{UnitAnswer}
 use Rattle.layout.specs.declared.Written.{Written}
@@ -223,3 +229,16 @@ select-says κs a x e p = p
 pub select-by-year-says : Says select-by-year-kinds.ps select-by-year-kinds.r select-by-year.Post
     (λ κs a x e. Gives (picked (a .1 .0) (now (a .0)) (a .1 .1 .0)) (now (a .1 .1 .1 .0)) (now (e .1 .1 .1 .0)) x)
 select-by-year-says κs a x e p = p
+
+-- `first_with`, of a wanted code, and `frame_of`
+abbrev pub FirstWith : ℕ → List ℕ → Hopped → Type 0
+FirstWith code s r = r ≡ hoppedOf (hop code s)
+
+pub first-with-says : Says first-with-kinds.ps first-with-kinds.r first-with.Post (λ κs a x e. FirstWith (a .1 .0) (now (a .0)) x)
+first-with-says κs a x e p = p
+
+abbrev pub FrameOf : List ℕ → Hopped → Type 0
+FrameOf s r = r ≡ hoppedOf (frame s)
+
+pub frame-of-says : Says frame-of-kinds.ps frame-of-kinds.r frame-of.Post (λ κs a x e. FrameOf (now (a .0)) x)
+frame-of-says κs a x e p = p

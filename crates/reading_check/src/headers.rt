@@ -8,13 +8,12 @@ ghost use Rattle.fields.specs.declared.steps.Step.the-variants.{Fine};
 ghost use Rattle.layout.specs.Fields.Header as Field;
 use fields::flags;
 use fields::headers::Header;
+use fields::headers::total_checks;
 use fields::steps::Step;
 use fields::steps::demand;
 use fields::steps::feature;
 use layout::header;
 use layout::refusals::LENGTH;
-use layout::refusals::NOT_SXF;
-use layout::refusals::SHORT;
 use layout::sheet;
 use layout::years;
 
@@ -33,16 +32,7 @@ pub fn check_header(h: Header, p: usize, left: usize, year: u32) -> Step
     requires { ⌜ p < 2 ^ 32 ⌝ }
     ensures { λ r. ⌜ Next Fine year p (headerChecks left (headerOf h)) r ⌝ }
 {
-    let a = demand(
-        Step::Fine,
-        h.identifier == header::IDENTIFIER_IS,
-        NOT_SXF,
-        p,
-        header::IDENTIFIER,
-    );
-    let a = demand(a, header::SIZE_U32 <= h.total, LENGTH, p, header::TOTAL);
-    let total = h.total as usize;
-    let a = demand(a, total <= left, SHORT, p, header::TOTAL);
+    let a = total_checks(h, p, left);
     let a = demand(a, h.metric <= beside(h.total), LENGTH, p, header::METRIC);
     let a = flags::reference_checks(
         a,

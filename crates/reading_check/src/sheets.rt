@@ -1,36 +1,24 @@
 // The sheet: passport and descriptor, then the records.
-ghost use mathlib.Core.List.{[], _∷_};
 ghost use mathlib.Core.Path.{_≡_};
-ghost use Prim.Native.Nat.{ℕ, _+_, _*_, _≤_, _<_};
-ghost use lib.Dec.{eqb};
-ghost use lib.ListN.{length, take, drop};
+ghost use Prim.Native.Nat.{_≤_};
+ghost use lib.ListN.{length};
 ghost use Rattle.reading_check.specs.Sheets.{Headed, recordsIn};
 ghost use Rattle.reading_check.specs.Tally.{shown, tally};
-ghost use Rattle.fields.specs.Steps.{Next};
-ghost use Rattle.fields.specs.declared.steps.Step.the-variants.{Fine};
 ghost use Rattle.layout.specs.Answers.Enums.{checkedOf};
-ghost use Rattle.layout.specs.Bytes.{number, total};
 ghost use Rattle.layout.specs.Fields.{limit};
-ghost use Rattle.layout.specs.Reading.Sheets.{sumOf, passportChecks, sheetWalk, start};
-ghost use Rattle.layout.specs.Shared.Texts.{isTextField};
-ghost use Rattle.layout.specs.Walk.{must, answer, upTo};
+ghost use Rattle.layout.specs.Reading.Sheets.{sheetWalk, start};
+ghost use Rattle.layout.specs.Walk.{answer, upTo};
 ghost use Rattle.layout.specs.Writing.Tables.{joined, flattenRecord};
 use crate::records;
 use crate::tally::Counted;
-use fields::flags;
 use fields::numbers;
 use fields::steps::Step;
-use fields::steps::demand;
-use fields::sums;
-use fields::texts;
 use layout::Checked;
 use layout::Refusal;
 use layout::Sizes;
 use layout::descriptor;
 use layout::passport;
 use layout::refusals::LEFT_OVER;
-use layout::refusals::SHORT;
-use layout::refusals::TOO_LONG;
 use layout::sheet;
 use reading_head::check;
 
@@ -84,19 +72,8 @@ fn check_whole(s: &[u8], year: u32) -> Checked
 pub fn check(s: &[u8], year: u32) -> Checked
     ensures { λ r. ⌜ r ≡ checkedOf (answer (upTo year) (sheetWalk (now (s .entry)))) ⌝ }
 {
-    if sheet::LIMIT < s.len() {
-        return Checked::Refused(Refusal {
-            number: TOO_LONG,
-            place: 0,
-            year: 0,
-        });
+    match check::size_checks(s) {
+        Step::Fine => check_whole(s, year),
+        Step::Refused(r) => Checked::Refused(r),
     }
-    if s.len() < sheet::START {
-        return Checked::Refused(Refusal {
-            number: SHORT,
-            place: 0,
-            year: 0,
-        });
-    }
-    check_whole(s, year)
 }

@@ -1,4 +1,4 @@
-// The reader's checks on passport and descriptor, by rising place.
+// The reader's checks on a sheet's length, and on passport and descriptor by rising place.
 ghost use mathlib.Core.List.{[], _∷_};
 ghost use mathlib.Core.Path.{_≡_};
 ghost use Prim.Native.Nat.{ℕ, _+_, _*_, _≤_};
@@ -8,7 +8,7 @@ ghost use Rattle.fields.specs.Steps.{Next};
 ghost use Rattle.fields.specs.declared.steps.Step.the-variants.{Fine};
 ghost use Rattle.layout.specs.Bytes.{number, total};
 ghost use Rattle.layout.specs.Fields.{limit};
-ghost use Rattle.layout.specs.Reading.Sheets.{sumOf, passportChecks, start};
+ghost use Rattle.layout.specs.Reading.Sheets.{sumOf, sizeChecks, passportChecks, start};
 ghost use Rattle.layout.specs.Refusals.{TEXT};
 ghost use Rattle.layout.specs.Shared.Texts.{isTextField};
 ghost use Rattle.layout.specs.Walk.{must};
@@ -24,12 +24,22 @@ use layout::passport;
 use layout::refusals::EDITION;
 use layout::refusals::NOT_SXF;
 use layout::refusals::RESERVED;
+use layout::refusals::SHORT;
 use layout::refusals::SUM;
 use layout::refusals::TEXT;
+use layout::refusals::TOO_LONG;
 use layout::sheet;
 
+// The checks on a sheet's length.
+pub fn size_checks(s: &[u8]) -> Step
+    ensures { λ r. ⌜ ((y : ℕ) → Next Fine y 0 (sizeChecks (now (s .entry))) r) ⌝ }
+{
+    let a = demand(Step::Fine, s.len() <= sheet::LIMIT, TOO_LONG, 0, 0);
+    demand(a, sheet::START <= s.len(), SHORT, 0, 0)
+}
+
 // The four bytes at p hold a fixed value, or the refusal is given there.
-fn fixed(so_far: Step, s: &[u8], p: usize, value: u32, refusal: u32) -> Step
+pub fn fixed(so_far: Step, s: &[u8], p: usize, value: u32, refusal: u32) -> Step
     requires { ⌜ p + 4 ≤ length (now s) ⌝ }
     ensures { λ r. ⌜ ((y : ℕ) → Next «so_far» y 0 (must (eqb (number 4 (drop p (now (s .entry)))) value) refusal p ∷ []) r) ⌝ }
 {

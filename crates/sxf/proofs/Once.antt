@@ -18,6 +18,10 @@ use Rattle.sxf.proofs.values.sxf_visibility_of.Kinds as visibility-of-k
 use Rattle.sxf.proofs.values.sxf_visibility_of.Reads as visibility-of
 use Rattle.sxf.proofs.version.sxf_version.Kinds as version-kinds
 use Rattle.sxf.proofs.version.sxf_version.Reads as version
+use Rattle.sxf.proofs.hops.sxf_first_with.Kinds as first-with-kinds
+use Rattle.sxf.proofs.hops.sxf_first_with.Reads as first-with
+use Rattle.sxf.proofs.hops.sxf_frame_of.Kinds as frame-of-kinds
+use Rattle.sxf.proofs.hops.sxf_frame_of.Reads as frame-of
 use Rattle.sxf.proofs.indexes.sxf_index_build.Kinds as index-build-kinds
 use Rattle.sxf.proofs.indexes.sxf_index_build.Reads as index-build
 use Rattle.sxf.proofs.indexes.sxf_index_check.Kinds as index-check-kinds
@@ -117,6 +121,12 @@ pub once-sxf-select : (κs : Lfts 2) (a : Dens κs select-kinds.ps) (x y : resT 
     (e f : AtExit (endedOf 2 select-kinds.ps select-kinds.r) κs)
     → select-sheet.Post κs a x e → select-sheet.Post κs a y f → (x ≡ y) × (now (e .1 .1 .1 .0) ≡ now (f .1 .1 .1 .0))
 once-sxf-select κs a x y e f p q = (p .0 ∙ sym (q .0), p .1 ∙ sym (q .1))
+
+pub once-sxf-first-with : Once first-with-kinds.ps first-with-kinds.r first-with.Post
+once-sxf-first-with κs a x y e f p q = p ∙ sym q
+
+pub once-sxf-frame-of : Once frame-of-kinds.ps frame-of-kinds.r frame-of.Post
+once-sxf-frame-of κs a x y e f p q = p ∙ sym q
 
 pub once-sxf-version : Once version-kinds.ps version-kinds.r version.Post
 once-sxf-version κs a x y e f p q = p ∙ sym q

@@ -4,7 +4,7 @@
 //!
 //!     rt staticlib sxf && cargo run --release --manifest-path rust/Cargo.toml -p measure -- index
 use crate::random::Random;
-use crate::{milliseconds, sheets};
+use crate::{milliseconds, sheets, verdict};
 use std::hint::black_box;
 use sxf::index::index_length;
 use sxf::table::unfold_into;
@@ -103,14 +103,6 @@ fn measure(sheet: &[u8], sizes: &Sizes, code: u32, hits: usize) -> Best {
     assert_eq!([lent::index_select(&index, code, &mut by_index), lent::select(sheet, year, code, &mut by_sheet)], [due, due]);
     assert!(by_index[..length] == by_sheet[..length], "what is selected through the index is not what is selected from the sheet");
     best
-}
-
-fn verdict(met: bool) -> &'static str {
-    if met {
-        "met"
-    } else {
-        "MISSED"
-    }
 }
 
 /// Prints the table, and how far the ratios are from what is required.

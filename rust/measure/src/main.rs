@@ -2,10 +2,12 @@
 //! and the rounds of the four go in turn, so that a slow spell of the machine meets all of them. All memory is touched before.
 //!
 //! `measure texts` times texts that are turned to UTF-16 and back instead, beside glibc's `iconv`, and `measure texts --each` holds each byte
-//! and each unit against it. `measure index` times a code index, and selections through it and without it.
+//! and each unit against it. `measure index` times a code index, and selections through it and without it. `measure hop` times finding the frame, and
+//! hopping over all headers beside checking the sheet.
 #![deny(unsafe_code)]
 
 mod each;
+mod hop;
 // The one module that may: it calls glibc.
 #[allow(unsafe_code)]
 mod iconv;
@@ -36,6 +38,15 @@ fn milliseconds(work: impl FnOnce()) -> f64 {
     let start = Instant::now();
     work();
     start.elapsed().as_secs_f64() * 1e3
+}
+
+/// Whether a figure is what is required, as it is printed.
+fn verdict(met: bool) -> &'static str {
+    if met {
+        "met"
+    } else {
+        "MISSED"
+    }
 }
 
 fn measure(kind: &sheets::Kind, sheet: &[u8]) -> Best {
@@ -95,8 +106,9 @@ fn main() -> ExitCode {
         ["texts"] => texts::time(),
         ["index"] => index::time(),
         ["texts", "--each"] => return ExitCode::from(u8::from(!each::hold())),
+        ["hop"] => return ExitCode::from(u8::from(!hop::time())),
         _ => {
-            eprintln!("nothing, texts, texts --each or index");
+            eprintln!("nothing, texts, texts --each, index or hop");
             return ExitCode::from(2);
         }
     }

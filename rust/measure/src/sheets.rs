@@ -1,4 +1,4 @@
-//! Sheets as long as the limit allows, made of records of one kind.
+//! Sheets as long as the limit allows, or shorter, made of records of one kind.
 use crate::random::Random;
 use sxf::fields::{descriptor, header, passport, Field, START};
 use sxf::{Reference, LIMIT};
@@ -35,16 +35,25 @@ fn head() -> Vec<u8> {
     sheet
 }
 
+/// How many bytes a record of so many points has.
+pub fn total(kind: &Kind, points: usize) -> usize {
+    header::SIZE + points * kind.reference.point_size()
+}
+
 /// As many records of so many points, all of code 0, as the limit has room for. The elements are pseudo-random bytes.
 pub fn make(kind: &Kind, points: usize) -> Vec<u8> {
     make_coded(kind, points, || 0)
 }
 
 /// The same, with a code for each record in turn.
-pub fn make_coded(kind: &Kind, points: usize, mut code: impl FnMut() -> u32) -> Vec<u8> {
-    let metric = points * kind.reference.point_size();
-    let total = header::SIZE + metric;
-    let records = (LIMIT - START) / total;
+pub fn make_coded(kind: &Kind, points: usize, code: impl FnMut() -> u32) -> Vec<u8> {
+    make_within(LIMIT, kind, points, code)
+}
+
+/// The same, in a sheet of at most so many bytes.
+pub fn make_within(length: usize, kind: &Kind, points: usize, mut code: impl FnMut() -> u32) -> Vec<u8> {
+    let total = total(kind, points);
+    let (metric, records) = (total - header::SIZE, (length - START) / total);
     let mut sheet = head();
     put(&mut sheet, descriptor::COUNT, records as u32);
     let mut random = Random(1);

@@ -8,10 +8,10 @@ use crate::LIMIT;
 /// Bytes of passport and descriptor; the first record starts here.
 pub(crate) const HEAD_BYTES: usize = 452;
 
-const IDENTIFIER: u32 = 0x0046_5853;
+pub(crate) const IDENTIFIER: u32 = 0x0046_5853;
 const PASSPORT_LENGTH: u32 = 400;
 const EDITION: u32 = 0x0004_0000;
-const DESCRIPTOR_IDENTIFIER: u32 = 0x0054_4144;
+pub(crate) const DESCRIPTOR_IDENTIFIER: u32 = 0x0054_4144;
 const DESCRIPTOR_LENGTH: u32 = 52;
 
 /// Where a text field starts, and its length.
@@ -23,7 +23,9 @@ const DESIGNATION_2: (usize, usize) = (408, 32);
 const SUM: usize = 12;
 const SCALE: usize = 60;
 const REST: usize = 96;
-const COUNT: usize = 440;
+/// Where the descriptor starts.
+pub(crate) const DESCRIPTOR: usize = 400;
+pub(crate) const COUNT: usize = 440;
 const CARRIED: usize = 444;
 const DESCRIPTOR_RESERVED: usize = 448;
 
@@ -69,7 +71,7 @@ impl Head {
         put_u32(sheet, SCALE, self.scale);
         put(sheet, TITLE.0, &self.title);
         put(sheet, REST, &self.rest);
-        put_u32(sheet, 400, DESCRIPTOR_IDENTIFIER);
+        put_u32(sheet, DESCRIPTOR, DESCRIPTOR_IDENTIFIER);
         put_u32(sheet, 404, DESCRIPTOR_LENGTH);
         put(sheet, DESIGNATION_2.0, &self.designation2);
         put_u32(sheet, COUNT, records);
@@ -103,7 +105,7 @@ pub(crate) fn read_head(sheet: &[u8], setting: Setting) -> Result<Opening, Refus
     let title = read_text(sheet, TITLE)?;
     let rest = bytes_at::<304>(sheet, REST);
     check_rest(&rest, setting)?;
-    fixed(sheet, 400, DESCRIPTOR_IDENTIFIER, Refusal::NOT_SXF)?;
+    fixed(sheet, DESCRIPTOR, DESCRIPTOR_IDENTIFIER, Refusal::NOT_SXF)?;
     fixed(sheet, 404, DESCRIPTOR_LENGTH, Refusal::EDITION)?;
     let designation2 = read_text(sheet, DESIGNATION_2)?;
     let carried = bytes_at::<4>(sheet, CARRIED);
@@ -176,6 +178,8 @@ fn check_text(text: &[u8], (place, length): (usize, usize)) -> Result<(), Refusa
     require(allowed, Refusal::TEXT, place as u64)
 }
 
-fn fixed(sheet: &[u8], place: usize, value: u32, number: u64) -> Result<(), Refusal> {
+/// Refuses with `number` unless the four bytes at a place, which the sheet has,
+/// are this value.
+pub(crate) fn fixed(sheet: &[u8], place: usize, value: u32, number: u64) -> Result<(), Refusal> {
     require(u32_at(sheet, place) == value, number, place as u64)
 }

@@ -15,9 +15,9 @@
 //! understood it.
 //!
 //! The words are the documents': passport, descriptor, record, part, item,
-//! coding, block, entry, place, refusal. Each refusal is checked in the
-//! documents' order, and the first that applies is the answer; no input makes a
-//! call panic.
+//! coding, block, entry, hop, hit, place, refusal. Each refusal is checked in
+//! the documents' order, and the first that applies is the answer; no input
+//! makes a call panic.
 
 #![forbid(unsafe_code)]
 #![warn(missing_docs)]
@@ -27,6 +27,7 @@ mod codings;
 mod coordinate;
 mod floating;
 mod head;
+mod hop;
 mod index;
 mod item;
 mod meanings;
@@ -45,6 +46,7 @@ mod tests;
 pub use codings::{from_utf16, to_utf16};
 pub use coordinate::{coordinate, Coordinate, Number};
 pub use head::Head;
+pub use hop::{first_with, frame_of, Hit, Hop};
 pub use index::{index_build, index_check, index_read, index_select, select, Index};
 pub use meanings::{corners, unit, value, visibility, Unit, Value};
 pub use record::Record;

@@ -121,6 +121,28 @@ pub enum Command {
         #[command(flatten)]
         at: AtYear,
     },
+    /// Find the frame of a sheet, without checking the sheet
+    ///
+    /// The frame is the first record whose class code is the one that the passport has at 348. 0 there is a code like any other: of a sheet that names no
+    /// frame it is the first record of code 0. It is found, and told in one line, as `sxf find` does it: sum, texts, flags and what the records
+    /// hold are not looked at, and no setting is asked for.
+    Frame {
+        /// The sheet
+        file: PathBuf,
+    },
+    /// Find the first record of a class code, without checking the sheet
+    ///
+    /// It goes from header to header, up to the first record that has the code or the last that the descriptor counts, and prints one line: the
+    /// record's number, place and total length, the code, and how many headers were looked at. That no record has the code is no failure. The sheet is
+    /// not checked: sum, texts, flags and what the records hold are not looked at, and no setting is asked for. Of a sheet that `sxf check` accepts
+    /// it finds the first record that `sxf select` lists; of another the line says only what the headers say that were looked at.
+    Find {
+        /// The sheet
+        file: PathBuf,
+        /// The class code, in decimal, 0 to 4294967295
+        #[arg(long, value_name = "N", value_parser = class_code, allow_negative_numbers = true)]
+        code: u32,
+    },
 }
 
 #[derive(Args)]

@@ -1,5 +1,5 @@
 //! The command `sxf`: sheets of SXF 4.0 are checked, listed, shown, unfolded to JSON lines and written from them, and their records selected by
-//! code, through an index or without one.
+//! code, through an index or without one. The frame, and the first record of a code, are found without checking the sheet.
 //!
 //! What is accepted and refused is the proved library's answer; this program reads the files and prints what is answered. Exit status:
 //! 0 accepted or done, 1 refused, 2 usage, input or output.
@@ -12,6 +12,7 @@ mod escapes;
 mod failure;
 mod head;
 mod hex;
+mod hop;
 mod index;
 mod input;
 mod json;
@@ -54,6 +55,8 @@ fn done(command: &Command, out: &mut dyn Write) -> Result<(), Failure> {
         Command::Years { file } => years::run(file, out),
         Command::Index { file, output, force, at } => index::run(file, &Target { file: output, force: *force }, at.year, out),
         Command::Select { file, code, index, at } => select::run(file, *code, index.as_deref(), at.year, out),
+        Command::Frame { file } => hop::frame(file, out),
+        Command::Find { file, code } => hop::find(file, *code, out),
     }
 }
 

@@ -144,6 +144,21 @@ pub struct Index {
     pub blocks: u64,
 }
 
+/// `sxf_hop`: 1 where there is a record of the code, else 0; its number, where it starts and its total length, 0 where there is none; and how
+/// many headers were looked at.
+#[repr(C)]
+#[derive(Clone, Copy, Debug, Default, PartialEq, Eq)]
+pub struct Hop {
+    pub number: u64,
+    pub place: u64,
+    pub year: u64,
+    pub found: u64,
+    pub record: u64,
+    pub at: u64,
+    pub total: u64,
+    pub looked: u64,
+}
+
 extern "C" {
     pub fn sxf_version() -> u32;
 
@@ -211,6 +226,10 @@ extern "C" {
     pub fn sxf_index_select(index: *const u8, index_len: usize, code: u32, picks: *mut u64, picks_len: usize) -> Written;
 
     pub fn sxf_select(sheet: *const u8, sheet_len: usize, year: u32, code: u32, picks: *mut u64, picks_len: usize) -> Written;
+
+    pub fn sxf_first_with(sheet: *const u8, sheet_len: usize, code: u32) -> Hop;
+
+    pub fn sxf_frame_of(sheet: *const u8, sheet_len: usize) -> Hop;
 }
 
 #[cfg(test)]
@@ -242,5 +261,6 @@ mod tests {
         laid_out!(Value: number place year kind bits whole power);
         laid_out!(Written: number place year length);
         laid_out!(Index: number place year entries blocks);
+        laid_out!(Hop: number place year found record at total looked);
     }
 }

@@ -193,6 +193,18 @@ pub fn select(sheet: &[u8], year: u32, code: u32, picks: &mut [u64]) -> Written 
     unsafe { sxf_select(sheet.as_ptr(), sheet.len(), year, code, picks.as_mut_ptr(), picks.len()) }
 }
 
+/// The first record with a class code, from header to header. The sheet is not checked.
+pub fn first_with(sheet: &[u8], code: u32) -> Hop {
+    // SAFETY: as `check`.
+    unsafe { sxf_first_with(sheet.as_ptr(), sheet.len(), code) }
+}
+
+/// The sheet's frame, from header to header: the first record with the class code that the passport has at 348. The sheet is not checked.
+pub fn frame_of(sheet: &[u8]) -> Hop {
+    // SAFETY: as `check`.
+    unsafe { sxf_frame_of(sheet.as_ptr(), sheet.len()) }
+}
+
 #[cfg(test)]
 mod tests {
     use super::*;
@@ -244,6 +256,7 @@ mod tests {
         assert_eq!(unfold(&[], 2017, &mut [], &mut [], &mut []).number, SHORT);
         assert_eq!(unfold_new(&[], 2017, [0; 3]).0.number, SHORT);
         assert_eq!((to_utf16(DOS, &[], &mut []), from_utf16(DOS, &[], &mut [])), (Written::default(), Written::default()));
+        assert_eq!((first_with(&[], 0).number, frame_of(&[]).number), (SHORT, SHORT));
     }
 
     /// «Газ» in the three codings, and in UTF-16.
@@ -277,6 +290,15 @@ mod tests {
     }
 
     const Q: &[u8] = include_bytes!("../../../samples/Q.sxf");
+
+    #[test]
+    fn a_hop_tells_the_first_record_of_a_code() {
+        let record = Hop { found: 1, at: 452, total: 42, looked: 1, ..Hop::default() };
+        assert_eq!((first_with(Q, 0), frame_of(Q)), (record, record));
+        assert_eq!(first_with(Q, 7), Hop { looked: 1, ..Hop::default() });
+        assert_eq!(frame_of(&Q[..493]), Hop { number: SHORT, place: 456, ..Hop::default() });
+    }
+
     /// How many numbers, elements and bytes Q's table has.
     const LENGTHS: [usize; 3] = [15, 2, 2];
 

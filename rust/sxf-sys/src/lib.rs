@@ -37,7 +37,7 @@ pub mod row;
 pub mod units;
 pub mod years;
 
-pub use calls::{Checked, Coordinate, Corners, Head, Index, Record, Unit, Value, Visibility, Written};
+pub use calls::{Checked, Coordinate, Corners, Head, Hop, Index, Record, Unit, Value, Visibility, Written};
 pub use fields::{Carried, Field, Rest, LIMIT};
 
 /// "Points 65535 is a mark: the count is the word at +24" (01, Record).

@@ -51,6 +51,7 @@ fn numbers_are_the_headers() {
         ("SXF_DESIGNATION_AT", passport::DESIGNATION.place as u64),
         ("SXF_TITLE_AT", passport::TITLE.place as u64),
         ("SXF_REST_AT", passport::REST.place as u64),
+        ("SXF_FRAME_AT", passport::FRAME.place as u64),
         ("SXF_DESIGNATION2_AT", descriptor::DESIGNATION.place as u64),
         ("SXF_CARRIED_AT", descriptor::CARRIED.place as u64),
         ("SXF_RECORDS_AT", START as u64),
@@ -196,6 +197,6 @@ fn structs_and_calls_are_the_headers() {
     for each in structs.iter().chain(&calls) {
         assert!(declared.contains(each), "not declared so: {each}");
     }
-    assert_eq!((structs.len(), declared.matches("pubstruct").count()), (10, 10));
-    assert_eq!((calls.len(), declared.matches("pubfn").count()), (18, 18));
+    assert_eq!((structs.len(), declared.matches("pubstruct").count()), (11, 11));
+    assert_eq!((calls.len(), declared.matches("pubfn").count()), (20, 20));
 }

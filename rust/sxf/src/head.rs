@@ -35,9 +35,6 @@ pub struct Head<'a> {
     pub carried: &'a Carried,
 }
 
-/// The class code of the sheet's frame. The library carries it unread, so it has no name there.
-const FRAME_CODE: Field = Field::new(348, 4);
-
 const fn plain_rest() -> Rest {
     let mut rest = [0; passport::REST.width];
     rest[passport::in_rest(passport::FLAGS).place] = 3;
@@ -105,9 +102,9 @@ impl<'a> Head<'a> {
         i32::from_le_bytes(field(self.rest, passport::RESOLUTION))
     }
 
-    /// The class code of the sheet's frame, at +348.
+    /// The class code of the sheet's frame, at +348. [`Sheet::frame`](crate::Sheet::frame) is the first record that has it.
     pub fn frame_code(&self) -> u32 {
-        u32::from_le_bytes(field(self.rest, FRAME_CODE))
+        u32::from_le_bytes(field(self.rest, passport::FRAME))
     }
 
     /// The north offset at +384.

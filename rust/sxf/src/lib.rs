@@ -27,6 +27,7 @@
 //! | [`table`] | the record table as the library fills and takes it |
 //! | [`row`], [`fields`] | the names of the table's columns, and of the places in a sheet |
 //! | [`index`], [`pick`] | a code index beside the sheet, and selections by class code: [`Index`], [`select`], [`Pick`] |
+//! | [`hop`] | the frame, and the first record with a class code, without reading the sheet: [`frame`], [`first_with`] |
 //! | [`writer`], [`new_item`] | a sheet is written: [`write()`], [`Writer`] |
 //! | [`years`] | which features a sheet has, and from which year |
 //! | [`refusal`], [`setting`] | refusals, and the nine settings |
@@ -36,10 +37,11 @@
 //! Proved are the library's answers: what is accepted and refused, with number, place and year; sum, count and sizes; the record table; a
 //! record asked for by number; the lengths of the head's texts; unit, corners, visibility; what an element's bits stand for, and in which unit;
 //! the numbers of items; which character a byte of DOS, Windows or KOI-8 is; the bytes of a code index, its entries, and what is selected by
-//! class code; the bytes written. This crate hands them on. Its own, which tests hold and no proof, are the walk over the table that was unfolded,
-//! a record's place in that walk, the bits of a number that is to be written, which record that is to be written needs the mark, the fields that
-//! [`Head`] reads out of its rest and its carried bytes, which coding a text is in, texts in UTF-16, whether a pick is a record of the sheet at
-//! hand, the room for writing, and the names of features.
+//! class code; the first record with a class code, and the frame, from header to header; the bytes written. This crate hands them on. Its own, which
+//! tests hold and no proof, are the walk over the table that was unfolded, a record's place in that walk, the bits of a number that is to be
+//! written, which record that is to be written needs the mark, the fields that [`Head`] reads out of its rest and its carried bytes, which coding a
+//! text is in, texts in UTF-16, whether a pick is a record of the sheet at hand, which code [`frame`] says that it looked for, the room for writing,
+//! and the names of features.
 //!
 //! Nothing here panics on what a sheet, a table or an index holds. That an accepted sheet's table is well formed is the library's promise; what
 //! goes against it would end an iteration early, and for good.
@@ -48,6 +50,7 @@
 
 pub mod coordinates;
 pub mod head;
+pub mod hop;
 pub mod index;
 pub mod item;
 pub mod new_item;
@@ -66,6 +69,7 @@ pub mod years;
 
 pub use coordinates::{Coordinate, Degrees, DevicePoints, ElementKind, Height, HeightUnit, Metres, Number, Radians, Unit};
 pub use head::{Corners, Head};
+pub use hop::{first_with, frame, Hit, Hop};
 pub use index::{Entry, Index};
 pub use item::{Item, Value};
 pub use new_item::{NewItem, NoSuchItem};

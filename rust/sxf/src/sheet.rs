@@ -183,6 +183,21 @@ impl<'a> Sheet<'a> {
         self.records().nth(number).ok_or(Refusal::NO_SUCH)
     }
 
+    /// Its frame: the first record with the class code that [`Head::frame_code`] has; none where no record has it. It goes over the rows before
+    /// it. Without reading the sheet [`frame`](crate::frame) finds it. A sheet that was read is not refused here.
+    ///
+    /// ```
+    /// # let bytes = include_bytes!("../../../samples/frame.sxf");
+    /// # let sheet = sxf::Sheet::read(bytes, sxf::Setting::Y2017)?;
+    /// let frame = sheet.frame()?.expect("a frame");
+    /// assert_eq!((frame.number(), frame.code()), (1, sheet.head()?.frame_code()));
+    /// # Ok::<(), sxf::Refusal>(())
+    /// ```
+    pub fn frame(&self) -> Result<Option<Record<'_>>, Refusal> {
+        let found = crate::frame(self.bytes)?.found;
+        Ok(found.and_then(|hit| self.records().go_to(hit.record)))
+    }
+
     /// Its [code index](crate::index), to keep beside it. The library checks the sheet again for it.
     pub fn index(&self) -> Result<Index, Refusal> {
         Index::build_sized(self.bytes, self.setting, self.sizes.records)

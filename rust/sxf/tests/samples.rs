@@ -12,7 +12,7 @@ fn sample(name: &str) -> Vec<u8> {
     fs::read(&path).unwrap_or_else(|error| panic!("{}: {error}", path.display()))
 }
 
-const ACCEPTED: [&str; 15] = [
+const ACCEPTED: [&str; 16] = [
     "E",
     "P",
     "Q",
@@ -23,6 +23,7 @@ const ACCEPTED: [&str; 15] = [
     "items",
     "long",
     "mark-small",
+    "frame",
     "dated",
     "cyrillic-dos",
     "cyrillic-windows",

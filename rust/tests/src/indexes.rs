@@ -33,7 +33,7 @@ pub const EACH_BLOCK: u64 = BLOCKS * BLOCK_FULL as u64;
 /// Two or more codes to choose from. They are likely to be taken for one another: the first
 /// and the last that there are, and some that differ in one byte or in the order
 /// of their bytes.
-fn codes(numbers: &mut Numbers) -> Vec<u32> {
+pub fn codes(numbers: &mut Numbers) -> Vec<u32> {
     let own = numbers.any() as u32;
     let byte = 8 * numbers.below(4) as u32;
     let mut codes = vec![0, u32::MAX, own, own ^ 1 << byte, own ^ 0x80 << byte, own.swap_bytes(), own.wrapping_add(1)];
@@ -46,7 +46,7 @@ fn codes(numbers: &mut Numbers) -> Vec<u32> {
 /// A sheet of so many records, of differing lengths, whose codes are these; but
 /// the last of them no record has, and of three or more the one before it has
 /// one record.
-fn sheet_of(numbers: &mut Numbers, year: u32, records: usize, codes: &[u32]) -> Made {
+pub fn sheet_of(numbers: &mut Numbers, year: u32, records: usize, codes: &[u32]) -> Made {
     let head = head(numbers, year);
     let mut table = table(numbers, year, Sizes { records: records as u64, parts: 2, points: 3, items: 2 });
     let had = &codes[..codes.len() - 1];

@@ -1,6 +1,7 @@
 //! Asks the archive and `second` the same, and compares all of both answers
 //! and all memory that was lent.
 
+mod hop;
 mod index;
 mod meanings;
 mod reading;

@@ -1,6 +1,8 @@
 //! Document 01's own sheets, with the answers it gives for them, and document
-//! 02's lake, elements, items, texts and code indexes whose answers are worked
-//! out by hand. Both the archive and `second` must give these.
+//! 02's lake, elements, items, texts, code indexes and hops whose answers are
+//! worked out by hand. Both the archive and `second` must give these.
+
+mod hops;
 
 use crate::archive;
 use crate::judge::{Care, Judge};
@@ -15,7 +17,7 @@ use sxf_sys::refusals::{ASK, BAD_BLOCK, COUNT, NO_CHARACTER, OK, ROOM, SEMANTIC,
 use sxf_sys::{kinds, row, units, years};
 
 /// How many there are.
-pub const CASES: u64 = 19;
+pub const CASES: u64 = 23;
 
 /// Where the metric of the first record starts.
 pub const METRIC: usize = START + header::SIZE;
@@ -117,7 +119,11 @@ pub fn run(judge: &mut Judge, case: u64) {
         15 => texts(judge),
         16 => lake_read(judge),
         17 => lake_written(judge),
-        _ => index_of_p(judge),
+        18 => index_of_p(judge),
+        19 => hops::hits(judge),
+        20 => hops::refusals_of_head(judge),
+        21 => hops::refusals_of_headers(judge),
+        _ => hops::not_looked_at(judge),
     }
 }
 

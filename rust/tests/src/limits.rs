@@ -2,16 +2,19 @@
 //! blocks as two bytes number, and beyond them.
 
 use crate::blocks::block_of;
+use crate::headers::{codes_in, no_code};
 use crate::heads::{head, SETTINGS};
+use crate::hop_damage;
 use crate::judge::{Care, Judge};
 use crate::large::SHORE;
 use crate::numbers::Numbers;
 use crate::phases::not_before;
 use crate::tables;
 use second::{Head, Table};
-use sxf_sys::fields::{header, item, subobject, LIMIT, START};
+use sxf_sys::fields::{descriptor, header, item, subobject, LIMIT, START};
 use sxf_sys::index::{BLOCK_FULL, PICK_WIDTH};
 use sxf_sys::reference::{ELEMENT_SIZE, FLOATING, SEMANTICS, THREE_DIMENSIONS};
+use sxf_sys::refusals::SHORT;
 use sxf_sys::row::{self, ITEMS};
 use sxf_sys::years;
 
@@ -114,7 +117,18 @@ fn at_limit(judge: &mut Judge, numbers: &mut Numbers, shape: Shape, over: usize)
         }
         let last = tables::rows(&table).last().map_or(0, |row| row.record.code);
         judge.indexed(&sheet, year, &[last as u32], numbers);
+        hops(judge, &mut sheet, year, last as u32, numbers);
     }
+}
+
+/// Hops over a sheet of the limit: to its last record, and to one that is not
+/// there, also where more records are counted than any sheet has room for.
+fn hops(judge: &mut Judge, sheet: &mut [u8], year: u32, last: u32, numbers: &mut Numbers) {
+    let absent = no_code(&codes_in(sheet), numbers);
+    judge.hops_are_readings(sheet, year, &[last, absent]);
+    hop_damage::put(sheet, descriptor::COUNT, u32::MAX);
+    let answer = judge.first_with(sheet, absent);
+    judge.same(|| "hop past the last record".into(), (answer.number, answer.place), (SHORT, LIMIT as u64));
 }
 
 /// A head and a table that write to exactly so many bytes.

@@ -10,7 +10,7 @@
 use held_against_second::features;
 use held_against_second::judge::Judge;
 use held_against_second::phases::{Phase, PHASES};
-use held_against_second::tally::{Tally, BY_INDEX, CALLS, FROM_SHEET, NUMBERS};
+use held_against_second::tally::{Tally, BY_CODE, BY_INDEX, CALLS, ENDS, FROM_SHEET, NUMBERS, TO_FRAME};
 use std::panic::{catch_unwind, AssertUnwindSafe};
 use std::process::ExitCode;
 use std::time::Instant;
@@ -198,6 +198,7 @@ fn print_reasons(tally: &Tally) {
     println!("built indexes by the bytes of their last place, 2 or 3: {:?}", tally.places);
     println!("no hit, one, more: by an index {:?}, from a sheet {:?}", tally.hits[BY_INDEX], tally.hits[FROM_SHEET]);
     println!("selected localisations 0 to 5: {:?}", tally.localisations);
+    println!("hops that ended at {ENDS:?}: by code {:?}, to the frame {:?}", tally.ends[BY_CODE], tally.ends[TO_FRAME]);
 }
 
 /// Runs the phases that are asked for, and prints a line for each.

@@ -3,6 +3,7 @@
 use crate::coordinates;
 use crate::each;
 use crate::heads::{head, NO_SETTINGS, SETTINGS};
+use crate::hops;
 use crate::indexes;
 use crate::judge::{Care, Judge};
 use crate::known;
@@ -67,9 +68,14 @@ pub enum Phase {
     Indexes,
     /// Code indexes of entries that may be any, right or damaged.
     DamagedIndexes,
+    /// Hops over a sheet of which everything is altered that they look at or
+    /// not, one by one.
+    EachHop,
+    /// Hops over sheets that are drawn, right or damaged.
+    Hops,
 }
 
-pub const PHASES: [Phase; 22] = [
+pub const PHASES: [Phase; 24] = [
     Phase::Known,
     Phase::Visibility,
     Phase::Values,
@@ -92,6 +98,8 @@ pub const PHASES: [Phase; 22] = [
     Phase::EachBlock,
     Phase::Indexes,
     Phase::DamagedIndexes,
+    Phase::EachHop,
+    Phase::Hops,
 ];
 
 impl Phase {
@@ -119,6 +127,8 @@ impl Phase {
             Phase::EachBlock => "each-block",
             Phase::Indexes => "indexes",
             Phase::DamagedIndexes => "damaged-indexes",
+            Phase::EachHop => "each-hop",
+            Phase::Hops => "hops",
         }
     }
 
@@ -145,6 +155,8 @@ impl Phase {
             Phase::EachBlock => indexes::EACH_BLOCK,
             Phase::Indexes => 5000 * times,
             Phase::DamagedIndexes => 60_000 * times,
+            Phase::EachHop => hops::EACH_HOP,
+            Phase::Hops => 10_000 * times,
         }
     }
 
@@ -175,6 +187,8 @@ impl Phase {
             Phase::EachBlock => indexes::block(judge, case, numbers),
             Phase::Indexes => indexes::drawn(judge, numbers),
             Phase::DamagedIndexes => indexes::damaged(judge, numbers),
+            Phase::EachHop => hops::each(judge, case, numbers),
+            Phase::Hops => hops::drawn(judge, numbers),
         }
     }
 

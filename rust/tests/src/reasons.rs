@@ -19,6 +19,11 @@ pub fn of_sheet(sheet: &[u8], refusal: Refusal) -> Reason {
     Reason { way: Way::Read, number: refusal.number, at, year: refusal.year }
 }
 
+/// The reason for a refusal to hop over a sheet.
+pub fn of_hop(sheet: &[u8], refusal: Refusal) -> Reason {
+    Reason { way: Way::Hop, ..of_sheet(sheet, refusal) }
+}
+
 fn in_records(sheet: &[u8], place: usize, refusal: u64) -> Where {
     let number = |field: Field| {
         let bytes = sheet.get(field.range()).unwrap_or(&[0; 4]);

@@ -377,7 +377,7 @@ const KINDS: [Kind; 24] = [
 const TYPES: [u8; 16] = [0, 1, 2, 3, 4, 5, 7, 8, 9, 16, 125, 126, 127, 128, 129, 255];
 
 /// The number in a field; 0 past the sheet's end.
-fn u32_in(sheet: &[u8], field: Field) -> u32 {
+pub fn u32_in(sheet: &[u8], field: Field) -> u32 {
     sheet.get(field.range()).map_or(0, |bytes| bytes.iter().rev().fold(0, |number, &byte| number << 8 | u32::from(byte)))
 }
 

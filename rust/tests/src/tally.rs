@@ -28,9 +28,11 @@ pub enum Call {
     IndexRead,
     IndexSelect,
     Select,
+    FirstWith,
+    FrameOf,
 }
 
-pub const CALLS: [Call; 17] = [
+pub const CALLS: [Call; 19] = [
     Call::Check,
     Call::Unfold,
     Call::RecordAt,
@@ -48,6 +50,8 @@ pub const CALLS: [Call; 17] = [
     Call::IndexRead,
     Call::IndexSelect,
     Call::Select,
+    Call::FirstWith,
+    Call::FrameOf,
 ];
 
 impl Call {
@@ -63,6 +67,7 @@ impl Call {
             Call::ToUtf16 | Call::FromUtf16 => &[ROOM, ASK, NO_CHARACTER],
             Call::IndexCheck => &[BAD_BLOCK],
             Call::IndexRead | Call::IndexSelect => &[ROOM, BAD_BLOCK],
+            Call::FirstWith | Call::FrameOf => &[TOO_LONG, SHORT, NOT_SXF, LENGTH],
         }
     }
 }
@@ -122,8 +127,8 @@ pub enum Where {
 }
 
 /// Whether a sheet was read or a table written, the meaning of an element or of
-/// an item was asked for, a text was turned to UTF-16 or back, or a code index
-/// was read.
+/// an item was asked for, a text was turned to UTF-16 or back, a code index was
+/// read, or a sheet was hopped over.
 #[derive(Clone, Copy, PartialEq, Eq, PartialOrd, Ord, Debug)]
 pub enum Way {
     Read,
@@ -132,6 +137,7 @@ pub enum Way {
     There,
     Back,
     Index,
+    Hop,
 }
 
 /// Why something was refused, as far as number, place and year tell.
@@ -174,7 +180,28 @@ pub struct Tally {
     pub localisations: [u64; 6],
     /// The indexes that were built whose last place took two bytes, or three.
     pub places: [u64; 2],
+    /// Where hops ended that were not refused: by code, and to the frame.
+    pub ends: [[u64; ENDS.len()]; 2],
 }
+
+/// Where a hop ended among the records that the descriptor counts.
+#[derive(Clone, Copy, PartialEq, Eq, Debug)]
+pub enum End {
+    /// None is counted.
+    NoRecord,
+    /// None is a hit.
+    NoHit,
+    FirstRecord,
+    InnerRecord,
+    /// The last, which is not the first.
+    LastRecord,
+}
+
+pub const ENDS: [End; 5] = [End::NoRecord, End::NoHit, End::FirstRecord, End::InnerRecord, End::LastRecord];
+
+/// Which of the two hops it was.
+pub const BY_CODE: usize = 0;
+pub const TO_FRAME: usize = 1;
 
 /// Which of the two ways a selection was made.
 pub const BY_INDEX: usize = 0;
@@ -218,6 +245,7 @@ impl Default for Tally {
             hits: Default::default(),
             localisations: Default::default(),
             places: Default::default(),
+            ends: Default::default(),
         }
     }
 }
@@ -246,6 +274,7 @@ impl Tally {
         add(self.hits.as_flattened_mut(), other.hits.as_flattened());
         add(&mut self.localisations, &other.localisations);
         add(&mut self.places, &other.places);
+        add(self.ends.as_flattened_mut(), other.ends.as_flattened());
         for (reason, more) in &other.reasons {
             *self.reasons.entry(*reason).or_default() += more;
         }
@@ -288,6 +317,18 @@ impl Tally {
         missing.extend(seldom(&self.there, &IN_TEXTS, least, "a text there from coding"));
         missing.extend(seldom(&self.back, &IN_TEXTS, least, "a text back to coding"));
         missing.extend(self.missing_indexes(least));
+        missing.extend(self.missing_hops(least));
+        missing
+    }
+
+    /// Wherever hops ended less often than `least` times.
+    fn missing_hops(&self, least: u64) -> Vec<String> {
+        let mut missing = Vec::new();
+        for (hop, name) in [(BY_CODE, "by code"), (TO_FRAME, "to the frame")] {
+            for (end, met) in ENDS.into_iter().zip(self.ends[hop]).filter(|&(_, met)| met < least) {
+                missing.push(format!("a hop {name} ended at {end:?} in {met} cases"));
+            }
+        }
         missing
     }
 
@@ -354,6 +395,7 @@ pub fn due() -> Vec<Reason> {
     due.extend(reasons(Way::There, &OF_TEXTS));
     due.extend(reasons(Way::Back, &OF_TEXTS));
     due.extend(reasons(Way::Index, &OF_INDEXES));
+    due.extend(reasons(Way::Hop, &OF_HOPS));
     due
 }
 
@@ -459,6 +501,15 @@ const OF_INDEXES: [Stated; 4] = [
         Block(Last, Zeros), Block(Last, Sum),
     ]),
 ];
+
+/// What is refused of a sheet that is hopped over.
+const OF_HOPS: [Stated; 4] = [
+    (TOO_LONG, 0, &[Head(0)]),
+    (SHORT, 0, &[Head(0), Header(0), Header(header::TOTAL.place)]),
+    (NOT_SXF, 0, &[Head(passport::IDENTIFIER.place), Head(descriptor::IDENTIFIER.place), Header(header::IDENTIFIER.place)]),
+    (LENGTH, 0, &[Header(header::TOTAL.place)]),
+];
+
 /// The rest that the writer refuses.
 const OF_WRITING: [Stated; 20] = [
     (TOO_LONG, 0, &[Asked]),

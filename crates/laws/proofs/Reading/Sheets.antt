@@ -30,7 +30,7 @@ use Rattle.laws.proofs.Reading.Records.{record-reads}
 use Rattle.laws.proofs.Encoding.Sums.{sum-fits}
 use Rattle.laws.proofs.Encoding.Uses.{sheet-uses}
 
-records-fill : (al : ℕ → Bool) (n : ℕ)
+pub records-fill : (al : ℕ → Bool) (n : ℕ)
     → Fills al (whole LEFT-OVER (times n recordWalk)) (flat encodeRecord) (λ l. (length l ≡ n) × All FineRecord l) (flat recordYears)
 records-fill al n =
     whole-fills al (times n recordWalk) (flat encodeRecord) (λ l. (length l ≡ n) × All FineRecord l) (flat recordYears)

@@ -22,6 +22,9 @@ use Rattle.layout.specs.declared.Found.the-variants as Find
 use Rattle.layout.specs.declared.HeadAt.{HeadAt}
 use Rattle.layout.specs.declared.Headed.{Headed}
 use Rattle.layout.specs.declared.Headed.the-variants as Heads
+use Rattle.layout.specs.declared.Hop.{Hop}
+use Rattle.layout.specs.declared.Hopped.{Hopped}
+use Rattle.layout.specs.declared.Hopped.the-variants as Hops
 use Rattle.layout.specs.declared.IndexSizes.{IndexSizes}
 use Rattle.layout.specs.declared.Indexed.{Indexed}
 use Rattle.layout.specs.declared.Indexed.the-variants as Index
@@ -99,6 +102,10 @@ indexSizes es = record { entries = length es; blocks = begun Block.full (length 
 unfoldable pub indexedOf : Answer (List Entry) → Indexed
 indexedOf (given es) = Index.Accepted (indexSizes es)
 indexedOf (refused number place year) = Index.Refused (refusal number place year)
+
+unfoldable pub hoppedOf : Answer Hop → Hopped
+hoppedOf (given h) = Hops.Hop h
+hoppedOf (refused number place year) = Hops.Refused (refusal number place year)
 
 unfoldable pub unitIn : Answer Sheet → UnitAnswer
 unitIn (given t) = Unit-of.Unit (sheetUnit (t .head))

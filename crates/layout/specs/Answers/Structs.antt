@@ -23,6 +23,8 @@ use Rattle.layout.specs.declared.Headed.{Headed}
 use Rattle.layout.specs.declared.Headed.the-variants as Heads
 use Rattle.layout.specs.declared.HeightUnit.{HeightUnit}
 use Rattle.layout.specs.declared.HeightUnit.the-variants as High
+use Rattle.layout.specs.declared.Hopped.{Hopped}
+use Rattle.layout.specs.declared.Hopped.the-variants as Hops
 use Rattle.layout.specs.declared.Indexed.{Indexed}
 use Rattle.layout.specs.declared.Indexed.the-variants as Index
 use Rattle.layout.specs.declared.Measured.{Measured}
@@ -45,6 +47,7 @@ use Rattle.layout.specs.declared.Written.the-variants as Write
 use Rattle.layout.specs.declared.structs.SxfCoordinate.{SxfCoordinate}
 use Rattle.layout.specs.declared.structs.SxfCorners.{SxfCorners}
 use Rattle.layout.specs.declared.structs.SxfHead.{SxfHead}
+use Rattle.layout.specs.declared.structs.SxfHop.{SxfHop}
 use Rattle.layout.specs.declared.structs.SxfIndex.{SxfIndex}
 use Rattle.layout.specs.declared.structs.SxfUnit.{SxfUnit}
 use Rattle.layout.specs.declared.structs.SxfValue.{SxfValue}
@@ -71,6 +74,22 @@ writtenRow (Write.Refused r) = record { number = r .number; place = r .place; ye
 unfoldable pub indexRow : Indexed → SxfIndex
 indexRow (Index.Accepted z) = record { number = 0; place = 0; year = 0; entries = z .entries; blocks = z .blocks }
 indexRow (Index.Refused r) = record { number = r .number; place = r .place; year = r .year; entries = 0; blocks = 0 }
+
+-- found is 1 where there is such a record
+unfoldable pub hopRow : Hopped → SxfHop
+hopRow (Hops.Hop h) =
+    record {
+      number = 0;
+      place = 0;
+      year = 0;
+      found = cond (h .found) 1 0;
+      «record» = h .«record»;
+      at = h .place;
+      total = h .total;
+      looked = h .looked;
+    }
+hopRow (Hops.Refused r) =
+    record { number = r .number; place = r .place; year = r .year; found = 0; «record» = 0; at = 0; total = 0; looked = 0 }
 
 unfoldable pub recordRow : Found → SxfRecord
 recordRow (Find.Record x) =

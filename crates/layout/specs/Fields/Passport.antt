@@ -80,6 +80,11 @@ heightUnit = field 237 1
 abbrev pub resolution : Field
 resolution = field 312 4
 
+-- "The frame of the sheet is the record whose code equals passport +348." (02, request 5); "Классификационный код рамки листа карты", 4
+-- bytes (000, table 1)
+abbrev pub frame : Field
+frame = field 348 4
+
 -- "+384 and +392 north and east offsets"
 abbrev pub north : Field
 north = field 384 8

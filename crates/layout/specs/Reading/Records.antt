@@ -2,7 +2,7 @@
 -- 20 to 22, points, word at +24, each metric part [..], metric end, semantics flag, each item [..]") The word at +24 is not refused any
 -- more: "That was our misreading: under the mark any count in the word is good." (02, request 2)
 use Prim.Native.Nat.{ℕ, _+_, _-_}
-use mathlib.Core.List.{List, [], _∷_}
+use mathlib.Core.List.{List, [], _∷_, _++_}
 use lib.Dec.{eqb, leb}
 use lib.ListN.{length, take, drop}
 use Rattle.layout.specs.Bytes.{numberIn, some, agree}
@@ -47,15 +47,21 @@ headerIn xs =
       points = numberIn Field.points xs;
     }
 
--- identifier and lengths, where so many bytes are left from the record's start on: "NOT SXF: an identifier differs"; "LENGTH: total
--- under 32 (+4)"; "SHORT: [..] total length past the end (+4)"; "LENGTH: [..] metric over total - 32 (+8)"
-unfoldable pub lengthChecks : ℕ → Header → List Check
-lengthChecks left h =
+-- "SHORT: [..] under 32 left for a record (its start)"; so many bytes are left from the record's start on
+abbrev pub headerLeft : ℕ → Check
+headerLeft left = must (leb Field.size left) SHORT 0
+
+-- identifier and total length: "NOT SXF: an identifier differs"; "LENGTH: total under 32 (+4)"; "SHORT: [..] total length past the end (+4)"
+abbrev pub totalChecks : ℕ → Header → List Check
+totalChecks left h =
     must (eqb (h .identifier) Field.identifier-is) NOT-SXF (Field.identifier .place)
     ∷ must (leb Field.size (h .total)) LENGTH (Field.total .place)
     ∷ must (leb (h .total) left) SHORT (Field.total .place)
-    ∷ must (leb (h .metric) (h .total - Field.size)) LENGTH (Field.metric .place)
     ∷ []
+
+-- these, and then "LENGTH: [..] metric over total - 32 (+8)"
+unfoldable pub lengthChecks : ℕ → Header → List Check
+lengthChecks left h = totalChecks left h ++ (must (leb (h .metric) (h .total - Field.size)) LENGTH (Field.metric .place) ∷ [])
 
 -- points: "The mark's year stays 2004" (02, request 2), at +30; "under the mark any count in the word is good"
 unfoldable pub markChecks : Header → List Check
@@ -110,8 +116,7 @@ recordWith h place xs = do
   r ← bodyWalk h (place + Field.size) (metricIn h xs) (semanticsIn h xs)
   ends (piece r (h .total))
 
--- "SHORT: [..] under 32 left for a record (its start)"
 unfoldable pub recordWalk : Reader Record
 recordWalk place xs = do
-  checks place (must (leb Field.size (length xs)) SHORT 0 ∷ [])
+  checks place (headerLeft (length xs) ∷ [])
   recordWith (headerIn xs) place xs

@@ -3,7 +3,7 @@ use mathlib.Core.Bool.{true, false}
 use mathlib.Core.List.{List, [], _++_}
 use mathlib.Core.Path.{_≡_, refl, sym, ap, _∙_}
 use Prim.Native.Nat.{ℕ, _+_, _-_, _^_, _≤_, _<_}
-use borrow.Author.Tests.{le-leb, lt-leb}
+use borrow.Author.Tests.{le-leb, lt-leb, leb-true}
 use lib.Dec.{leb}
 use lib.ListN.{length, take, drop, length-drop}
 use native.Mathlib.Nat.{add-zero}
@@ -14,7 +14,7 @@ use Rattle.reading_check.specs.Tally.{tally, tallyOf, countedOf, shown}
 use Rattle.reading_check.specs.declared.tally.Counted.{Counted}
 use Rattle.reading_check.specs.declared.tally.Counted.the-variants.{Fine, Refused}
 use Rattle.reading_check.specs.declared.tally.Tally.{Tally}
-use Rattle.fields.proofs.Laws.Chain.{refusedBy, step-given, step-stop}
+use Rattle.fields.proofs.Laws.Chain.{refusedBy, step-given, step-holds, step-stop}
 use Rattle.fields.proofs.Laws.Lists.{rest-is}
 use Rattle.fields.specs.Steps.{Next}
 use Rattle.fields.specs.declared.steps.Step.{Step}
@@ -27,7 +27,7 @@ use Rattle.layout.specs.Fields.Passport
 use Rattle.layout.specs.Layout.Encode.{encodeHead, encodeWith, sheetSum, encode}
 use Rattle.layout.specs.Reading.Records.{recordWalk}
 use Rattle.layout.specs.Reading.Sheets.{sizeChecks, passportChecks, descriptorChecks, reservedChecks, headIn, sheetWalk}
-use Rattle.layout.specs.Refusals.{LEFT-OVER, SHORT, TOO-LONG}
+use Rattle.layout.specs.Refusals.{LEFT-OVER}
 use Rattle.layout.specs.Shared.Carried.{restChecks, carriedChecks}
 use Rattle.layout.specs.Sheet.{Record, Sheet}
 use Rattle.layout.specs.Walk.{Walk, ends, Answer, given, refused, answer, upTo, checks, _>>=_, _>>_, Piece, times, whole}
@@ -90,14 +90,17 @@ module _ (s : List ℕ) (l : length s ≤ limit) (m : 452 ≤ length s) where
     unfolding checkedOf
     head-stop q e = sym (ap checkedOf (ap (answer (upTo y)) halves ∙ step-stop y 0 (headChecks s) r n (tail s) q e))
 
-module _ (y : ℕ) (s : List ℕ) where
-  pub sheet-long : limit < length s → Check.Refused (refusal TOO-LONG 0 0) ≡ checkedOf (answer (upTo y) (sheetWalk s))
-  unfolding sheetWalk sizeChecks checkedOf
-  sheet-long h = simp (lt-leb (length s) limit h)
+-- the step of the checks on the sheet's length
+module _ (y : ℕ) (s : List ℕ) (r : Step) (n : Next Stp.Fine y 0 (sizeChecks s) r) where
+  pub size-on : r ≡ Stp.Fine → (452 ≤ length s) × (length s ≤ limit)
+  unfolding sizeChecks
+  size-on e =
+      let h = step-holds y 0 (sizeChecks s) r n e in
+      (leb-true 452 (length s) (h .1 .0), leb-true (length s) limit (h .0))
 
-  pub sheet-short : length s ≤ limit → length s < 452 → Check.Refused (refusal SHORT 0 0) ≡ checkedOf (answer (upTo y) (sheetWalk s))
-  unfolding sheetWalk sizeChecks checkedOf
-  sheet-short h i = simp (le-leb (length s) limit h, lt-leb 452 (length s) i)
+  pub size-stop : (q : Refusal) → r ≡ Stp.Refused q → Check.Refused q ≡ checkedOf (answer (upTo y) (sheetWalk s))
+  unfolding sheetWalk checkedOf
+  size-stop q e = sym (ap checkedOf (step-stop y 0 (sizeChecks s) r n _ q e))
 
 -- what walking the records of the slice from 452 on counts
 pub walked-here : (y : ℕ) (s : List ℕ) (n : ℕ) → n ≡ number 4 (drop 440 s) → (k : Counted)

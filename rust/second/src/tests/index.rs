@@ -26,14 +26,6 @@ fn index_p() -> Vec<u8> {
     block(&[0, 0, 1, 0, 0, 0, 0, 0, 0xC4, 1, 0, 2], 200)
 }
 
-/// P's record with this code and byte 20.
-fn coded(code: u32, byte20: u8) -> Vec<u8> {
-    let mut record = record_p();
-    record[12..16].copy_from_slice(&code.to_le_bytes());
-    record[20] = byte20;
-    record
-}
-
 /// A sheet of so many records of 36 bytes; the first has code 1.
 fn sheet_of(records: u32) -> Vec<u8> {
     sheet_with(&(1..=records).map(|code| coded(code, 2)).collect::<Vec<_>>())

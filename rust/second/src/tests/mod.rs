@@ -2,6 +2,7 @@
 
 mod codings;
 mod coordinates;
+mod hop;
 mod index;
 mod limits;
 mod meanings;
@@ -97,6 +98,14 @@ const POINT_3_4: [u8; 4] = [3, 0, 4, 0];
 /// The record of sheet P.
 fn record_p() -> Vec<u8> {
     record([2, 0, 0], 0, 0, 1, &POINT_3_4, &[])
+}
+
+/// P's record with this code and byte 20.
+fn coded(code: u32, byte20: u8) -> Vec<u8> {
+    let mut record = record_p();
+    record[12..16].copy_from_slice(&code.to_le_bytes());
+    record[20] = byte20;
+    record
 }
 
 /// Sheet P.

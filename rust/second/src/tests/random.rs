@@ -1,7 +1,7 @@
 //! Sheets and tables by chance: round trips, later settings, no panic.
 
 use super::*;
-use crate::{check, read, record_at, write};
+use crate::{check, first_with, read, record_at, write, Hit, Hop};
 
 const YEARS: [u32; 9] = [1999, 2004, 2006, 2008, 2012, 2014, 2015, 2016, 2017];
 
@@ -131,6 +131,20 @@ fn hold_sheet(sheet: &[u8]) -> bool {
     last.is_some()
 }
 
+/// On an accepted sheet hopping answers what the full reading answers: for the
+/// code of each record, and for one that none has.
+fn hold_hops(sheet: &[u8], reading: &Reading) {
+    let records: Vec<_> = (0..reading.records).map(|number| record_at(sheet, 2017, number).unwrap()).collect();
+    let codes: Vec<u64> = records.iter().map(|record| record.code).collect();
+    let absent = (0..).find(|code| !codes.contains(code)).unwrap();
+    for code in codes.iter().copied().chain([absent]) {
+        let first = records.iter().zip(0..).find(|(record, _)| record.code == code);
+        let hit = first.map(|(record, number)| Hit { record: number, at: record.at, total: record.total });
+        let looked = hit.map_or(reading.records, |hit| hit.record + 1);
+        assert_eq!(first_with(sheet, code as u32), Ok(Hop { hit, looked }));
+    }
+}
+
 #[test]
 fn tables_are_read_back() {
     let mut chance = Chance(0x5EED);
@@ -141,6 +155,7 @@ fn tables_are_read_back() {
         let reading = read(&sheet, 2017).unwrap();
         assert_eq!((&reading.head, &reading.table), (&head, &table));
         assert!(hold_sheet(&sheet));
+        hold_hops(&sheet, &reading);
     }
 }
 

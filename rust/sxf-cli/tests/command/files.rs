@@ -223,6 +223,8 @@ fn a_closed_standard_output_is_a_failure() {
         &["index", &q, "-o", "-"],
         &["index", &e, "-o", "-"],
         &["select", &q, "--code", "0"],
+        &["frame", &q],
+        &["find", &q, "--code", "0"],
         &["--help"],
     ] {
         for (redirected, why) in [(">&-", "it is closed"), ("1</dev/null", "Bad file descriptor")] {

@@ -3,6 +3,7 @@ mod answers;
 mod drawn;
 mod every;
 mod files;
+mod hop;
 mod index;
 mod lines;
 mod mark;

@@ -4,7 +4,7 @@ use std::io::Write;
 use std::path::{Path, PathBuf};
 use std::process::{Command, Output, Stdio};
 
-pub const ACCEPTED: [&str; 15] = [
+pub const ACCEPTED: [&str; 16] = [
     "E",
     "P",
     "Q",
@@ -15,6 +15,7 @@ pub const ACCEPTED: [&str; 15] = [
     "items",
     "long",
     "mark-small",
+    "frame",
     "dated",
     "cyrillic-dos",
     "cyrillic-windows",

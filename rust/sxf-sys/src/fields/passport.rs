@@ -44,6 +44,8 @@ pub const UNIT: Field = Field::new(236, 1);
 pub const HEIGHT_UNIT: Field = Field::new(237, 1);
 /// In the rest: "+312 signed resolution".
 pub const RESOLUTION: Field = Field::new(312, 4);
+/// In the rest: the class code of the sheet's frame. "The frame of the sheet is the record whose code equals passport +348" (02, request 5).
+pub const FRAME: Field = Field::new(348, 4);
 /// In the rest: the first of "+384 and +392 north and east offsets".
 pub const NORTH: Field = Field::new(384, 8);
 /// In the rest: the second of them.

@@ -51,6 +51,7 @@ impl Judge {
             self.records_at(sheet, year, &due, care, numbers);
             self.head_of(sheet, year, &due);
             self.indexes(sheet, year, &due, care, numbers);
+            self.hops_at(sheet, year, care, numbers);
             if let Ok(reading) = &due {
                 self.writes_back(sheet, year, reading);
                 self.meanings_of(reading);

@@ -1,4 +1,4 @@
--- Each link hands on the step so far (`_▸_`): lengths, reference bytes and the mark's year join to the list `headerChecks`.
+-- Each link hands on the step so far (`_▸_`): identifier and lengths, reference bytes and the mark's year join to the list `headerChecks`.
 use Rattle.fields.proofs.Laws.Chain.{_▸_}
 use Rattle.fields.specs.Headers.{headerOf}
 use Rattle.layout.specs.Reading.Records.{lengthChecks, markChecks}
@@ -11,20 +11,15 @@ unfolding headerOf lengthChecks markChecks
 returns c =
     let after-reference-checks = c .before .before in
     let after-beside = after-reference-checks .before .before .before in
-    let after-demand2 = after-beside .before .before .before in
-    let after-demand = after-demand2 .before .before in
-    let start = after-demand .before .before in
-    after-demand .demand .ensures _ ▸ after-demand2 .demand2 .ensures _ ▸ after-beside .before .demand3 .ensures _ ▸
-    (rw (after-beside .beside .ensures) at (after-reference-checks .before .demand4 .ensures (start .args .year))) ▸
+    let start = after-beside .before .before in
+    after-beside .before .total-checks .ensures _ ▸
+    (rw (after-beside .beside .ensures) at (after-reference-checks .before .demand .ensures (start .args .year))) ▸
     after-reference-checks .reference-checks .ensures ▸ c .feature .ensures
 
 pub check-header-spec : {M : Type 1} → statement M
 check-header-spec =
     tie.close
     (tie.spec
-    (λ c κs. search needs)
-    (λ c κs. search needs)
-    (λ c. search needs)
     (λ c κs. search needs)
     (λ c κs. search needs)
     (λ c κs. search needs)
