@@ -400,10 +400,10 @@ static void refused_hops(void)
 {
     static const uint8_t over[SXF_LIMIT + 1];
     sxf_hop too_long = sxf_first_with(over, SXF_LIMIT + 1, 0), other = sxf_frame_of(over, SXF_LIMIT);
-    sxf_hop short_451 = sxf_first_with(many, 451, 0), no_bytes = sxf_frame_of(many, 0);
+    sxf_hop too_short = sxf_first_with(many, SXF_RECORDS_AT - 1, 0), no_bytes = sxf_frame_of(many, 0);
     SAME(too_long, SXF_TOO_LONG, 0, 0, 0, 0, 0, 0, 0);
     SAME(other, SXF_NOT_SXF, 0, 0, 0, 0, 0, 0, 0);
-    SAME(short_451, SXF_SHORT, 0, 0, 0, 0, 0, 0, 0);
+    SAME(too_short, SXF_SHORT, 0, 0, 0, 0, 0, 0, 0);
     SAME(no_bytes, SXF_SHORT, 0, 0, 0, 0, 0, 0, 0);
     many[DESCRIPTOR_AT] ^= 1;
     sxf_hop descriptor = sxf_first_with(many, MANY_LENGTH, 0);

@@ -369,7 +369,7 @@ typedef struct {
 sxf_hop sxf_first_with(const uint8_t *sheet, size_t sheet_len, uint32_t code);
 
 /* The frame of the sheet: the same with the code that stands in the four bytes at SXF_FRAME_AT, lowest first, on which the answer rests too. 0 is a
-   code like any other: of a sheet that has 0 there, since it names no frame, the first record of code 0 is answered. */
+   code like any other: a sheet that names no frame has 0 there, and then its first record of code 0 is answered, if it has one. */
 sxf_hop sxf_frame_of(const uint8_t *sheet, size_t sheet_len);
 
 #ifdef __cplusplus

@@ -60,8 +60,8 @@ hop wanted s = answer always (hopWalk wanted s)
 unfoldable pub frame : List ℕ → Answer Hop
 frame s = hop (numberIn Passport.frame s) s
 
--- "On an accepted sheet the answer equals the one from the full reading": that one, by which no call answers. It is the first with a code among the
--- records of a reading, of which the first has a number and starts at a place.
+-- "On an accepted sheet the answer equals the one from the full reading": that one, which no call computes. Among the records of a reading it is the
+-- first that has the code; the first in the list has this number and starts at this place.
 abbrev pub firstWith : ℕ → ℕ → ℕ → List Record → Hop
 firstWith wanted number place [] = noHit number
 firstWith wanted number place (r ∷ rs) =

@@ -33,7 +33,7 @@ use Rattle.layout.specs.declared.Sizes.{Sizes}
 use Rattle.laws.proofs.Base.Walks.{given-inj, then-back}
 use Rattle.laws.proofs.Hop.First.{first-hit, first-only, first-looked}
 use Rattle.laws.proofs.Hop.Looked as Looked
-use Rattle.laws.proofs.Hop.Only.{SameBytes}
+use Rattle.laws.proofs.Hop.Only.{SameBytes, SameHeader}
 use Rattle.laws.proofs.Hop.Only as Only
 use Rattle.laws.proofs.Hop.Reads as Reads
 use Rattle.laws.proofs.Hop.Refusals.{refusals}
@@ -133,18 +133,30 @@ pub hit-within : (code : ℕ) (s : List ℕ) (h : Hop) → FirstWith code s (Hop
     → (start ≤ h .place) × (Field.size ≤ h .total) × (h .place + h .total ≤ length s)
 hit-within code s h c f = Within.hit-within code s h (told (hop code s) h c) f
 
--- On any bytes the header at the hit has the identifier, the wanted code and the total length that is told, and as many hops as its number lead to it;
+-- On any bytes a hit is one of the counted records. Its header has the identifier, the wanted code and the total length that is told, and as many
+-- hops as its number lead to it.
 pub hit-says : (code : ℕ) (s : List ℕ) (h : Hop) → FirstWith code s (Hops.Hop h) → h .found ≡ true → HitSays code s h
 hit-says code s h c f = Says.hit-says code s h (told (hop code s) h c) f
 
--- no header before it has the code, and without a hit none that was looked at;
+-- On any bytes no header before the hit has the code, and without a hit none that was looked at.
 pub none-before : (code : ℕ) (s : List ℕ) (h : Hop) → FirstWith code s (Hops.Hop h) → (k : ℕ) → k < cond (h .found) (h .«record») (h .looked)
     → headerIn (drop (placeIn k start s) s) .code ≡ code → ⊥
 none-before code s h c k l = Says.none-before code s h (told (hop code s) h c) k l
 
--- and then number, place and total length are 0, and the count is the descriptor's.
+-- Without a hit number, place and total length are 0, and the count is the descriptor's.
 pub no-hit : (code : ℕ) (s : List ℕ) (h : Hop) → FirstWith code s (Hops.Hop h) → h .found ≡ false → h ≡ noHit (numberIn Descriptor.count s)
 no-hit code s h c f = Says.no-hit code s h (told (hop code s) h c) f
+
+-- Two sheets of one length that have the same numbers at 0, 400 and 440, and the same identifier, total length and code in each header passed in one
+-- of them, get one answer: no other field of a header is looked at.
+pub hop-fields : (code : ℕ) (s t : List ℕ) → length s ≡ length t
+    → numberIn Passport.identifier s ≡ numberIn Passport.identifier t
+    → numberIn Descriptor.identifier s ≡ numberIn Descriptor.identifier t
+    → numberIn Descriptor.count s ≡ numberIn Descriptor.count t
+    → All (SameHeader s t) (passed code s)
+    → (r q : Hopped) → FirstWith code s r → FirstWith code t q → r ≡ q
+hop-fields code s t len passport descriptor count same r q c d =
+    c ∙ ap hoppedOf (Only.hop-fields code s t len passport descriptor count same) ∙ sym d
 
 -- Two sheets of one length that have the same bytes 0 to 3, 400 to 403 and 440 to 443, and the same headers passed in one of them, get one answer.
 pub hop-only : (code : ℕ) (s t : List ℕ) → length s ≡ length t

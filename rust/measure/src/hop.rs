@@ -35,11 +35,14 @@ const NO_CODE: u32 = 1;
 struct Case {
     /// How many points a record has.
     points: usize,
+    /// How many records then fill a sheet.
+    records: usize,
     /// How many times as fast as checking the sheet it has to be.
     required: f64,
 }
 
-const CASES: [Case; 2] = [Case { points: 10, required: 3.0 }, Case { points: 100, required: 10.0 }];
+const CASES: [Case; 2] =
+    [Case { points: 10, records: 87_378, required: 3.0 }, Case { points: 100, records: 10_279, required: 10.0 }];
 
 /// The best time of finding the frame, in nanoseconds a call. Its code in the passport is 0, and so is that of every record: the first is it.
 fn nanoseconds_to_frame(sheet: &[u8]) -> f64 {
@@ -92,9 +95,9 @@ fn time_headers() -> bool {
     println!("| points in a record | records | check, ms | hop over all headers, ms | times as fast |");
     println!("|---|---|---|---|---|");
     let (mut told, mut all_met) = (Vec::new(), true);
-    for Case { points, required } in CASES {
+    for Case { points, records, required } in CASES {
         let sheet = sheets::make(KIND, points);
-        let records = sxf::check(&sheet, SETTING).expect("the sheet is accepted").records;
+        assert_eq!(sxf::check(&sheet, SETTING).expect("the sheet is accepted").records, records);
         assert_eq!(lent::first_with(&sheet, NO_CODE), Hop { looked: records as u64, ..Hop::default() });
         let (check, hop) = check_and_hop(&sheet);
         let fast = check / hop;

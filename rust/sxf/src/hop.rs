@@ -35,7 +35,7 @@
 //!
 //! # What the record holds
 //!
-//! is told by the calls that check the sheet: [`Sheet::record`](crate::Sheet::record) and [`record_at`](crate::record_at) take its number.
+//! The calls that check the sheet tell it: [`Sheet::record`](crate::Sheet::record) and [`record_at`](crate::record_at) take its number.
 //!
 //! ```
 //! # use sxf::Setting;
@@ -73,8 +73,8 @@ pub fn first_with(sheet: &[u8], code: u32) -> Result<Hop<'_>, Refusal> {
     Hop::answered(sheet, code, &lent::first_with(sheet, code))
 }
 
-/// The frame of the sheet: the first record with the class code that the passport has at 348. 0 is a code like any other: of a sheet that has 0
-/// there, since it names no frame, the first record of code 0 is told ([`Hop::code`] says which code it was). The sheet
+/// The frame of the sheet: the first record with the class code that the passport has at 348. 0 is a code like any other: a sheet that names no frame
+/// has 0 there, and then its first record of code 0 is told, if it has one ([`Hop::code`] says which code it was). The sheet
 /// [is not checked](self#what-the-answer-rests-on). [`Sheet::frame`](crate::Sheet::frame) gives the record of a sheet that was read.
 ///
 /// ```

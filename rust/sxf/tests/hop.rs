@@ -1,61 +1,34 @@
 //! The first record with a class code, and the frame, from header to header: on accepted sheets against their records, and on damaged ones what
 //! is found, what is not noticed, and what is refused.
-use std::fs;
-use std::path::PathBuf;
+mod common;
+
+use common::{code, read, record, sample, written, ACCEPTED, CODES, FIRST_CODE};
 use sxf::fields::{descriptor, header, passport, Field, START};
-use sxf::{
-    check, first_with, frame, record_at, Head, Hit, Hop, Localisation, NewPart, NewRecord, Number, Point, Reference, Refusal,
-    Setting, Sheet, Writer, LIMIT,
-};
-
-/// How many codes the records of a sheet have in turn.
-const CODES: usize = 5;
-
-/// A code that needs all four bytes.
-const FIRST_CODE: u32 = 4_294_967_291;
+use sxf::{check, first_with, frame, record_at, Head, Hit, Hop, Localisation, NewRecord, Refusal, Setting, Sheet, LIMIT};
 
 /// A code that no record of these sheets has.
 const NO_CODE: u32 = 7;
 
-/// The code of a record.
-fn code(number: usize) -> u32 {
-    FIRST_CODE + (number % CODES) as u32
+/// A line of this code, with so many points.
+fn line(code: u32, points: usize) -> NewRecord {
+    record(code, Localisation::Linear, points)
 }
 
-/// A record of this code, with so many points.
-fn record(code: u32, points: usize) -> NewRecord {
-    let zero = sxf::Unit::DevicePoints.coordinate(Number::Whole(0));
-    let part = NewPart::new(vec![Point { x: zero, y: zero, height: None }; points]);
-    NewRecord::new(code, Reference::new(Localisation::Linear)).part(part)
-}
-
-/// A sheet whose passport has this frame code.
-fn written(frame_code: u32, records: impl IntoIterator<Item = NewRecord>) -> Vec<u8> {
+/// A sheet of these records, whose passport has this frame code.
+fn framed(frame_code: u32, records: impl IntoIterator<Item = NewRecord>) -> Vec<u8> {
     let mut rest = *Head::PLAIN.rest;
     rest[passport::in_rest(passport::FRAME).range()].copy_from_slice(&frame_code.to_le_bytes());
-    let mut writer = Writer::new(Head { rest: &rest, ..Head::PLAIN }).expect("a plain head");
-    records.into_iter().for_each(|record| writer.push(&record).expect("a record that fits"));
-    writer.write(Setting::Y2017).expect("a sheet")
+    written(Head { rest: &rest, ..Head::PLAIN }, records)
 }
 
 /// A sheet of so many records, of different lengths. Its frame is the third, if it has so many.
 fn sheet_of(records: usize) -> Vec<u8> {
-    written(code(2), (0..records).map(|number| record(code(number), number % 7)))
-}
-
-fn sample(name: &str) -> Vec<u8> {
-    let path = PathBuf::from(env!("CARGO_MANIFEST_DIR")).join("../../samples").join(name).with_extension("sxf");
-    fs::read(&path).unwrap_or_else(|error| panic!("{}: {error}", path.display()))
-}
-
-fn read(bytes: &[u8]) -> Sheet<'_> {
-    Sheet::read(bytes, Setting::Y2017).expect("an accepted sheet")
+    framed(code(2), (0..records).map(|number| line(code(number), number % 7)))
 }
 
 /// The samples that are accepted, and sheets of some records.
 fn accepted() -> Vec<Vec<u8>> {
-    let names = ["E", "Q", "head", "labels", "heights", "items", "long", "mark-small", "frame", "dated", "cyrillic-dos"];
-    names.map(sample).into_iter().chain([0, 1, 2, 3, 5, 64, 700].map(sheet_of)).collect()
+    ACCEPTED.map(sample).into_iter().chain([0, 1, 2, 3, 5, 64, 700].map(sheet_of)).collect()
 }
 
 /// What the reading of an accepted sheet says: the first of its records that has the code.
@@ -104,13 +77,13 @@ fn the_frame_is_the_first_record_of_the_passports_code() {
 /// All four bytes of the code count, and 0 is a code like any other.
 #[test]
 fn a_frame_code_is_four_bytes_and_may_be_0() {
-    let records = || [0x0102_0304, 0x0102_0300, 0x0100_0304, 0x0002_0304, 0].map(|code| record(code, 1));
+    let records = || [0x0102_0304, 0x0102_0300, 0x0100_0304, 0x0002_0304, 0].map(|code| line(code, 1));
     for (number, frame_code) in [0x0102_0304, 0x0102_0300, 0x0100_0304, 0x0002_0304, 0].into_iter().enumerate() {
-        let bytes = written(frame_code, records());
+        let bytes = framed(frame_code, records());
         let hop = frame(&bytes).expect("an accepted sheet");
         assert_eq!((hop.code, hop.found.map(|hit| hit.record), hop.looked), (frame_code, Some(number), number + 1));
     }
-    assert_eq!(frame(&written(0, [])), Ok(Hop { code: 0, found: None, looked: 0 }));
+    assert_eq!(frame(&framed(0, [])), Ok(Hop { code: 0, found: None, looked: 0 }));
 }
 
 fn put(bytes: &mut [u8], field: Field, number: u32) {
@@ -150,7 +123,7 @@ fn the_start_of_a_sheet_is_refused_in_order() {
 
 /// Three records of one point each: 36 bytes at 452, 488 and 524.
 fn three() -> Vec<u8> {
-    written(2, (1..=3).map(|code| record(code, 1)))
+    framed(2, (1..=3).map(|code| line(code, 1)))
 }
 
 const TOTAL: usize = 36;
@@ -275,7 +248,7 @@ fn counted_are_the_records_that_the_descriptor_states() {
 #[test]
 fn a_sheet_full_of_headers_is_gone_over_to_its_end() {
     let count = (LIMIT - START) / header::SIZE;
-    let bytes = written(NO_CODE, (0..count).map(|number| record(number as u32 + 8, 0)));
+    let bytes = framed(NO_CODE, (0..count).map(|number| line(number as u32 + 8, 0)));
     assert_eq!(numbers(frame(&bytes)), Ok((None, count)));
     let last = START + (count - 1) * header::SIZE;
     assert_eq!(numbers(first_with(&bytes, count as u32 + 7)), Ok((Some([count - 1, last, header::SIZE]), count)));

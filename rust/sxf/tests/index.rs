@@ -1,45 +1,15 @@
 //! Code indexes: built, kept, read back and asked; and what comes of one that is damaged, or another sheet's.
-use std::fs;
-use std::path::PathBuf;
+mod common;
+
+use common::{code, read, record, sample, written, CODES, FIRST_CODE};
 use sxf::fields::{header, passport, START};
 use sxf::index::{index_length, BLOCK_FULL, BLOCK_SIZE, LONGEST};
-use sxf::{
-    select, Entry, Head, Index, Localisation, NewPart, NewRecord, Number, OtherSheet, Pick, Point, Reference, Refusal, Setting,
-    Sheet, Writer,
-};
-
-/// How many codes the records of a sheet have in turn. A block has 63 entries, so blocks begin with different codes.
-const CODES: u32 = 5;
-
-/// A code that needs all four bytes.
-const FIRST_CODE: u32 = 4_294_967_291;
-
-/// The code of a record.
-fn code(number: usize) -> u32 {
-    FIRST_CODE + number as u32 % CODES
-}
-
-/// A record of this code, with so many points.
-fn record(code: u32, localisation: Localisation, points: usize) -> NewRecord {
-    let zero = sxf::Unit::DevicePoints.coordinate(Number::Whole(0));
-    let part = NewPart::new(vec![Point { x: zero, y: zero, height: None }; points]);
-    NewRecord::new(code, Reference::new(localisation)).part(part)
-}
-
-fn written(records: impl IntoIterator<Item = NewRecord>) -> Vec<u8> {
-    let mut writer = Writer::new(Head::PLAIN).expect("a plain head");
-    records.into_iter().for_each(|record| writer.push(&record).expect("a record that fits"));
-    writer.write(Setting::Y2017).expect("a sheet")
-}
+use sxf::{select, Entry, Head, Index, Localisation, OtherSheet, Pick, Reference, Refusal, Setting, Sheet};
 
 /// A sheet of so many records, of different lengths.
 fn sheet_of(records: usize) -> Vec<u8> {
     let localisations = [Localisation::Linear, Localisation::Areal, Localisation::Point];
-    written((0..records).map(|number| record(code(number), localisations[number % 3], number % 7)))
-}
-
-fn read(bytes: &[u8]) -> Sheet<'_> {
-    Sheet::read(bytes, Setting::Y2017).expect("an accepted sheet")
+    written(Head::PLAIN, (0..records).map(|number| record(code(number), localisations[number % 3], number % 7)))
 }
 
 fn built(sheet: &[u8]) -> Index {
@@ -117,15 +87,10 @@ fn a_selection_is_the_same_by_index_by_sheet_and_by_reading_all() {
 
 #[test]
 fn all_records_may_have_one_code() {
-    let bytes = written((0..200).map(|_| record(7, Localisation::Point, 1)));
+    let bytes = written(Head::PLAIN, (0..200).map(|_| record(7, Localisation::Point, 1)));
     let numbers = |picks: sxf::Picks| picks.map(|pick| pick.record).collect::<Vec<_>>();
     assert_eq!(numbers(built(&bytes).select(7)), (0..200).collect::<Vec<_>>());
     assert_eq!(numbers(select(&bytes, Setting::Y2017, 7).expect("an accepted sheet")), (0..200).collect::<Vec<_>>());
-}
-
-fn sample(name: &str) -> Vec<u8> {
-    let path = PathBuf::from(env!("CARGO_MANIFEST_DIR")).join("../../samples").join(name).with_extension("sxf");
-    fs::read(&path).unwrap_or_else(|error| panic!("{}: {error}", path.display()))
 }
 
 /// "Refusals: the sheet's own" (02, request 3), at the setting asked for.
@@ -220,7 +185,7 @@ fn picks_lead_to_their_records() {
     let bytes = sheet_of(127);
     let (sheet, index) = (read(&bytes), built(&bytes));
     let picks: Vec<Pick> = index.select(FIRST_CODE).collect();
-    let due: Vec<_> = (0..127).step_by(CODES as usize).map(Ok).collect();
+    let due: Vec<_> = (0..127).step_by(CODES).map(Ok).collect();
     assert_eq!(found(&sheet, picks.clone()), due);
     for pick in &picks {
         let record = sheet.record_of(pick).expect("its record");
@@ -234,7 +199,7 @@ fn picks_lead_to_their_records() {
 /// Each of number, place, code and localisation is held against the sheet's own record.
 #[test]
 fn a_pick_of_another_sheet_is_told() {
-    let bytes = written([record(7, Localisation::Linear, 1), record(7, Localisation::Areal, 2)]);
+    let bytes = written(Head::PLAIN, [record(7, Localisation::Linear, 1), record(7, Localisation::Areal, 2)]);
     let sheet = read(&bytes);
     let second = START + header::SIZE + Reference::default().point_size();
     let own = Pick { code: 7, record: 1, place: second, localisation_number: 1 };
@@ -259,15 +224,15 @@ fn a_pick_of_another_sheet_is_told() {
 #[test]
 fn an_old_index_is_told_where_a_pick_does_not_fit() {
     let (well, fence) = (record(1, Localisation::Point, 1), record(2, Localisation::Linear, 2));
-    let old = built(&written([well.clone(), fence.clone(), well.clone()]));
-    let longer = written([well.clone(), record(2, Localisation::Linear, 3), well.clone()]);
+    let old = built(&written(Head::PLAIN, [well.clone(), fence.clone(), well.clone()]));
+    let longer = written(Head::PLAIN, [well.clone(), record(2, Localisation::Linear, 3), well.clone()]);
     let sheet = read(&longer);
     let found_by = |sheet: &Sheet<'_>, code| found(sheet, old.select(code));
     assert!(matches!(found_by(&sheet, 1)[..], [Ok(0), Err(OtherSheet { own: Some(_), .. })]));
-    let fewer = written([well.clone(), fence.clone()]);
+    let fewer = written(Head::PLAIN, [well.clone(), fence.clone()]);
     assert!(matches!(found_by(&read(&fewer), 1)[..], [Ok(0), Err(OtherSheet { own: None, .. })]));
     // Nothing tells of the second fence here; only building again does.
-    let other_code = written([well, fence, record(2, Localisation::Point, 1)]);
+    let other_code = written(Head::PLAIN, [well, fence, record(2, Localisation::Point, 1)]);
     let sheet = read(&other_code);
     assert_eq!(found_by(&sheet, 2), [Ok(1)]);
     assert!(sheet.index().expect("an accepted sheet") != old);

@@ -1,35 +1,12 @@
 //! The wrapper over the sample sheets, and over what is left of them when a byte or a number is changed.
-use std::fs;
-use std::path::PathBuf;
+mod common;
+
+use common::{read, sample, ACCEPTED};
 use sxf::fields::{passport, Field};
 use sxf::{
     check, record_at, row, write, Coding, Head, HeightUnit, Localisation, NewItem, NewPart, NewRecord, NoCharacter, Number, Point,
     Record, Reference, Refusal, Setting, Sheet, Stray, Table, TableRef, Text, Unit, Value, Writer,
 };
-
-fn sample(name: &str) -> Vec<u8> {
-    let path = PathBuf::from(env!("CARGO_MANIFEST_DIR")).join("../../samples").join(name).with_extension("sxf");
-    fs::read(&path).unwrap_or_else(|error| panic!("{}: {error}", path.display()))
-}
-
-const ACCEPTED: [&str; 16] = [
-    "E",
-    "P",
-    "Q",
-    "head",
-    "labels",
-    "heights",
-    "floating",
-    "items",
-    "long",
-    "mark-small",
-    "frame",
-    "dated",
-    "cyrillic-dos",
-    "cyrillic-windows",
-    "cyrillic-koi8",
-    "no-character",
-];
 
 /// With the number and place that samples/sheets.txt states.
 const REFUSED: [(&str, u32, usize); 8] = [
@@ -42,10 +19,6 @@ const REFUSED: [(&str, u32, usize); 8] = [
     ("left-over", Refusal::LEFT_OVER, 488),
     ("n1-not-zero", Refusal::COUNT, 488),
 ];
-
-fn read(bytes: &[u8]) -> Sheet<'_> {
-    Sheet::read(bytes, Setting::Y2017).expect("an accepted sheet")
-}
 
 #[test]
 fn each_sample_is_accepted_or_refused() {

@@ -2,7 +2,7 @@
 
 use crate::archive::Hop;
 use crate::numbers::Numbers;
-use crate::sheet_damage::u32_in;
+use crate::stored::u32_in;
 use std::iter::successors;
 use sxf_sys::fields::{descriptor, header, passport, Field, LIMIT, START};
 use sxf_sys::refusals::{OK, SHORT, TOO_LONG};
@@ -28,7 +28,8 @@ pub fn codes_in(sheet: &[u8]) -> Vec<u32> {
     headers(sheet).map(|at| u32_in(sheet, header::CODE.at(at))).collect()
 }
 
-/// A code that is none of these, but differs in one bit from one of them.
+/// A code that is none of these; where there is one, it differs in one bit from
+/// one of them.
 pub fn no_code(codes: &[u32], numbers: &mut Numbers) -> u32 {
     let own = if codes.is_empty() { 0 } else { numbers.pick(codes) };
     let (first, others) = (numbers.below(32), 0..32);

@@ -3,11 +3,12 @@
 
 use crate::numbers::Numbers;
 use crate::places::Bounds;
-use crate::sheet_damage::u32_in;
+use crate::stored::{put, u32_in};
 use sxf_sys::fields::{descriptor, header, passport, Field, START};
 
-/// Counts that are taken wrongly for this one: beside it, the same in fewer
-/// bytes, and about the most that four bytes hold, with a sign and without.
+/// This count, none, and counts that a slip could take for it: beside it, the
+/// same in fewer bytes, and about the most that four bytes hold, with a sign and
+/// without.
 pub fn counts(own: u32) -> Vec<u32> {
     let beside = [0, own.wrapping_sub(1), own, own.wrapping_add(1)];
     [&beside[..], &in_fewer_bytes(own), &EDGES].concat()
@@ -28,9 +29,10 @@ pub fn totals(own: u32, at: usize, length: usize) -> Vec<u32> {
 /// Total lengths about the least that there is.
 const LEAST: [u32; 5] = [0, 1, header::SIZE as u32 - 1, header::SIZE as u32, header::SIZE as u32 + 1];
 
-/// Identifiers that are taken wrongly for a record's: with its bytes changed
-/// over, half of it, that of graphics, that of the passport, and zero.
-pub const IDENTIFIERS: [u32; 6] = [0xFF7F_FF7F, 0x7FFF_0000, 0x0000_7FFF, 0x7FFF_7FFE, passport::IDENTIFIER_IS, 0];
+/// Identifiers that a slip could take for a record's: its bytes in the other
+/// order, half of it, that of graphics, that of the passport, and zero.
+pub const IDENTIFIERS: [u32; 6] =
+    [header::IDENTIFIER_IS.swap_bytes(), 0x7FFF_0000, 0x0000_7FFF, 0x7FFF_7FFE, passport::IDENTIFIER_IS, 0];
 
 /// The edges of numbers of four bytes.
 const EDGES: [u32; 4] = [i32::MAX as u32, 1 << 31, u32::MAX - 1, u32::MAX];
@@ -65,11 +67,12 @@ fn once(numbers: &mut Numbers, sheet: &mut Vec<u8>, records: &[Bounds]) -> Strin
     }
 }
 
-/// The sheet cut a few bytes before a place, there, or within a header after it.
+/// The sheet cut one byte before a place, there, or up to a header's length after
+/// it.
 fn cut(numbers: &mut Numbers, sheet: &mut Vec<u8>, about: usize) -> String {
     let length = about - 1 + numbers.pick(&[0, 1, 2, 5, 9, 13, header::SIZE, header::SIZE + 1]);
     sheet.truncate(length);
-    format!("cut to {length} bytes")
+    format!("cut to {} bytes", sheet.len())
 }
 
 fn identifier(numbers: &mut Numbers, sheet: &mut [u8], field: Field) -> String {
@@ -96,11 +99,4 @@ fn total(numbers: &mut Numbers, sheet: &mut [u8], at: usize) -> String {
     let total = numbers.pick(&[about_the_least, other]);
     put(sheet, field, total);
     format!("total length {total} at {at}")
-}
-
-/// Stores a number of four bytes, if the sheet is long enough to have it.
-pub fn put(sheet: &mut [u8], field: Field, number: u32) {
-    if let Some(stored) = sheet.get_mut(field.range()) {
-        stored.copy_from_slice(&number.to_le_bytes());
-    }
 }

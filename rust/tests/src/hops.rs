@@ -3,7 +3,7 @@
 
 use crate::archive::Hop;
 use crate::headers::{codes_in, no_code};
-use crate::hop_damage::{counts, damage, put, totals, IDENTIFIERS};
+use crate::hop_damage::{counts, damage, totals, IDENTIFIERS};
 use crate::indexes::{codes, sheet_of};
 use crate::judge::Judge;
 use crate::numbers::Numbers;
@@ -11,6 +11,7 @@ use crate::phases::not_before;
 use crate::places::{places, Bounds};
 use crate::sheet_damage;
 use crate::sheets::{put_sum_right, setting, Made};
+use crate::stored::put;
 use crate::tables::rows;
 use sxf_sys::fields::{descriptor, header, passport, Field, START};
 use sxf_sys::refusals::{LENGTH, NOT_SXF, SHORT};
@@ -47,7 +48,7 @@ pub fn drawn(judge: &mut Judge, numbers: &mut Numbers) {
     let there = codes_in(&sheet);
     let one = if there.is_empty() { frame } else { numbers.pick(&there) };
     let asked = [one, numbers.pick(&codes), no_code(&there, numbers)];
-    judge.hops_are_readings(&sheet, year, &asked);
+    judge.hops_where_accepted(&sheet, year, &asked);
     judge.hops(&sheet, &asked, numbers);
 }
 
@@ -67,10 +68,10 @@ fn damaged(numbers: &mut Numbers, made: &Made) -> (Vec<u8>, Vec<String>) {
 /// does not. What both must answer is known from how the sheet was made.
 pub fn each(judge: &mut Judge, case: u64, numbers: &mut Numbers) {
     let (year, records) = (setting(numbers), (case % SIZES) as usize);
-    let codes = codes(numbers);
+    let drawn = codes(numbers);
     judge.note(format!("sheets of {records} records for {year}"));
-    for &wanted in &codes {
-        let Made { table, sheet, .. } = sheet_for(numbers, year, records, &codes, wanted);
+    for &wanted in &drawn {
+        let Made { table, sheet, .. } = sheet_for(numbers, year, records, &drawn, wanted);
         let codes = rows(&table).map(|row| row.record.code as u32).collect();
         let mut each = Each { judge, numbers, sheet, records: places(&table).records, codes, wanted };
         each.run();
@@ -90,11 +91,11 @@ struct Each<'a> {
     wanted: u32,
 }
 
-fn refused(number: u64, place: usize) -> Hop {
+pub fn refused(number: u64, place: usize) -> Hop {
     Hop { number, place: place as u64, ..Hop::default() }
 }
 
-fn no_hit(looked: usize) -> Hop {
+pub fn no_hit(looked: usize) -> Hop {
     Hop { looked: looked as u64, ..Hop::default() }
 }
 
@@ -200,12 +201,12 @@ impl Each<'_> {
         }
     }
 
-    /// Total lengths that lead past the next record to another are left out.
+    /// Total lengths that lead to a record after the next are left out.
     fn totals(&mut self, record: usize) {
         let Bounds { at, end, .. } = self.records[record];
         for total in totals((end - at) as u32, at, self.sheet.len()) {
             let next = at + total as usize;
-            if next == end || !self.records.iter().any(|record| record.at == next) {
+            if next <= end || !self.records.iter().any(|record| record.at == next) {
                 let due = if self.looks_at(record) { self.answer_with_next(record, next) } else { self.answer() };
                 self.is_with(header::TOTAL.at(at), total, due);
             }
@@ -234,7 +235,8 @@ impl Each<'_> {
     }
 
     /// Every length: what is refused is the first record that is looked at and
-    /// not whole. What is cut off stays where it is, for a hop not to find it.
+    /// not whole. The bytes that are cut off still lie behind what is lent, so that
+    /// a hop that reads past its end would find the record.
     fn cuts(&mut self) {
         let sheet = self.sheet.clone();
         for length in 0..sheet.len() {

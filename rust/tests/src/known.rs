@@ -7,17 +7,18 @@ mod hops;
 use crate::archive;
 use crate::judge::{Care, Judge};
 use crate::numbers::Numbers;
+use crate::stored::put;
 use second::Refusal;
 use sxf_sys::codings::{DOS, KOI8, WINDOWS};
 use sxf_sys::dimensions::{EAST, HEIGHT, NORTH};
-use sxf_sys::fields::{descriptor, header, passport, Field, START};
+use sxf_sys::fields::{descriptor, header, passport, START};
 use sxf_sys::index::BLOCK_SIZE;
 use sxf_sys::reference::{ELEMENT_SIZE, FLOATING, SEMANTICS, THREE_DIMENSIONS};
 use sxf_sys::refusals::{ASK, BAD_BLOCK, COUNT, NO_CHARACTER, OK, ROOM, SEMANTIC, SHORT, SUM, TABLE, TEXT, TOO_NEW};
 use sxf_sys::{kinds, row, units, years};
 
 /// How many there are.
-pub const CASES: u64 = 23;
+pub const CASES: u64 = 24;
 
 /// Where the metric of the first record starts.
 pub const METRIC: usize = START + header::SIZE;
@@ -60,10 +61,6 @@ fn sheet_q() -> Vec<u8> {
     sheet[header::BYTE21.at(START).place] = 2;
     sheet.extend_from_slice(&[0x01, 0x00, 0x02, 0xFF, 0xF9, 0x04]);
     sheet
-}
-
-fn put(sheet: &mut [u8], field: Field, number: u32) {
-    sheet[field.range()].copy_from_slice(&number.to_le_bytes());
 }
 
 /// What document 01 says of a sheet: sum and count, or the refusal.
@@ -123,6 +120,7 @@ pub fn run(judge: &mut Judge, case: u64) {
         19 => hops::hits(judge),
         20 => hops::refusals_of_head(judge),
         21 => hops::refusals_of_headers(judge),
+        22 => hops::cuts(judge),
         _ => hops::not_looked_at(judge),
     }
 }

@@ -28,6 +28,7 @@ pub mod places;
 pub mod reasons;
 pub mod sheet_damage;
 pub mod sheets;
+pub mod stored;
 pub mod table_damage;
 pub mod tables;
 pub mod tally;

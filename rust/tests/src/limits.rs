@@ -2,13 +2,14 @@
 //! blocks as two bytes number, and beyond them.
 
 use crate::blocks::block_of;
-use crate::headers::{codes_in, no_code};
+use crate::headers::{codes_in, headers, no_code};
 use crate::heads::{head, SETTINGS};
-use crate::hop_damage;
 use crate::judge::{Care, Judge};
 use crate::large::SHORE;
 use crate::numbers::Numbers;
 use crate::phases::not_before;
+use crate::sheets::put_sum_right;
+use crate::stored::put;
 use crate::tables;
 use second::{Head, Table};
 use sxf_sys::fields::{descriptor, header, item, subobject, LIMIT, START};
@@ -117,16 +118,25 @@ fn at_limit(judge: &mut Judge, numbers: &mut Numbers, shape: Shape, over: usize)
         }
         let last = tables::rows(&table).last().map_or(0, |row| row.record.code);
         judge.indexed(&sheet, year, &[last as u32], numbers);
-        hops(judge, &mut sheet, year, last as u32, numbers);
+        hops(judge, &mut sheet, year, numbers);
     }
 }
 
-/// Hops over a sheet of the limit: to its last record, and to one that is not
-/// there, also where more records are counted than any sheet has room for.
-fn hops(judge: &mut Judge, sheet: &mut [u8], year: u32, last: u32, numbers: &mut Numbers) {
-    let absent = no_code(&codes_in(sheet), numbers);
-    judge.hops_are_readings(sheet, year, &[last, absent]);
-    hop_damage::put(sheet, descriptor::COUNT, u32::MAX);
+/// Hops over a sheet of the limit: to its last record, which gets a code that no
+/// other has, and to one that is not there, also where more records are counted
+/// than any sheet has room for.
+fn hops(judge: &mut Judge, sheet: &mut [u8], year: u32, numbers: &mut Numbers) {
+    let mut codes = codes_in(sheet);
+    let last_code = no_code(&codes, numbers);
+    codes.push(last_code);
+    let absent = no_code(&codes, numbers);
+    let last = headers(sheet).last().unwrap_or(START);
+    put(sheet, header::CODE.at(last), last_code);
+    put_sum_right(sheet);
+    let answer = judge.first_with(sheet, last_code);
+    judge.same(|| "hop to the last record".into(), (answer.found, answer.at), (1, last as u64));
+    judge.hops_are_readings(sheet, year, &[last_code, absent]);
+    put(sheet, descriptor::COUNT, u32::MAX);
     let answer = judge.first_with(sheet, absent);
     judge.same(|| "hop past the last record".into(), (answer.number, answer.place), (SHORT, LIMIT as u64));
 }

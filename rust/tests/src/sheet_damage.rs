@@ -3,6 +3,7 @@
 use crate::numbers::Numbers;
 use crate::places::{Bounds, Kind, Places, Spot};
 use crate::sheets::{put_sum_right, small_sheet, Made};
+use crate::stored::u32_in;
 use sxf_sys::fields::{descriptor, header, Field, START};
 use sxf_sys::MARK;
 
@@ -375,11 +376,6 @@ const KINDS: [Kind; 24] = [
 ];
 
 const TYPES: [u8; 16] = [0, 1, 2, 3, 4, 5, 7, 8, 9, 16, 125, 126, 127, 128, 129, 255];
-
-/// The number in a field; 0 past the sheet's end.
-pub fn u32_in(sheet: &[u8], field: Field) -> u32 {
-    sheet.get(field.range()).map_or(0, |bytes| bytes.iter().rev().fold(0, |number, &byte| number << 8 | u32::from(byte)))
-}
 
 /// A number of one to four bytes: one more or less, one bit, or an edge.
 fn alter_number(numbers: &mut Numbers, field: &mut [u8]) {

@@ -2,7 +2,7 @@
 use mathlib.Core.List.{List, [], _∷_}
 use mathlib.Core.Path.{_≡_, refl, sym, _∙_}
 use Prim.Native.Nat.{ℕ, _+_, _≤_, _<_}
-use borrow.Author.Tests.{le-leb, lt-leb, leb-true}
+use borrow.Author.Tests.{le-leb, lt-leb}
 use lib.ListN.{length, drop}
 use native.Mathlib.Nat.{add-zero}
 use Rattle.fields.proofs.Laws.Chain.{_▸_, refusedBy, step-holds, step-refused, then-on, then-stop}
@@ -23,6 +23,7 @@ use Rattle.layout.specs.declared.Refusal.{Refusal}
 use Rattle.laws.proofs.Base.Lists.{_&_}
 use Rattle.laws.proofs.Base.Walks.{bind-refused, checks-on, allowed-always}
 use Rattle.laws.proofs.Hop.Within.{total-fits}
+use Rattle.laws.proofs.Reading.Sheets.{size-holds}
 use Rattle.laws.proofs.Years.Own.{OwnChecks, newestSetting, own-checks, own-newest}
 
 -- The checks cs came to the step r at every setting, and so where there is none; own says that none of them refuses as TOO NEW, or is of a year after
@@ -63,15 +64,12 @@ module _ (y : ℕ) (s : List ℕ) (r : Step) (n : Next Fine y 0 (sizeChecks s) r
 
 -- what is known of a sheet whose length was let through
 pub sized : (s : List ℕ) (r : Step) → ((y : ℕ) → Next Fine y 0 (sizeChecks s) r) → r ≡ Fine → start ≤ length s
-unfolding sizeChecks
-sized s r n e = leb-true start (length s) (step-holds newestSetting 0 (sizeChecks s) r (n newestSetting) e .1 .0)
+sized s r n e = size-holds s (step-holds newestSetting 0 (sizeChecks s) r (n newestSetting) e) .0
 
 -- of one whose start was let through
 pub started : (s : List ℕ) (r : Step) → ((y : ℕ) → Next Fine y 0 (startChecks s) r) → r ≡ Fine → (start ≤ length s) × (length s ≤ limit)
 unfolding startChecks sizeChecks
-started s r n e =
-    let h = step-holds newestSetting 0 (startChecks s) r (n newestSetting) e in
-    (leb-true start (length s) (h .1 .0), leb-true (length s) limit (h .0))
+started s r n e = let h = step-holds newestSetting 0 (startChecks s) r (n newestSetting) e in size-holds s (h .0 & h .1 .0 & tt)
 
 -- and of a header that was let through: it has its own size at least, and lies within the sheet with all its record
 pub header-within : (s : List ℕ) (place : ℕ) (r : Step) → ((y : ℕ) → Next Fine y place (hopChecks (drop place s)) r) → r ≡ Fine

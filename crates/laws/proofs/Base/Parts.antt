@@ -4,7 +4,7 @@ use mathlib.Core.Path.{_≡_, refl, ap, sym, _∙_}
 use Prim.Native.Nat.{ℕ, zero, suc, _+_, _-_, _*_, _≤_}
 use lib.ListN.{take, drop}
 use native.Mathlib.Omega.{arith}
-use Rattle.layout.specs.Bytes.{Field, after, number, numberIn}
+use Rattle.layout.specs.Bytes.{Field, field, after, number, numberIn, bytesIn}
 use Rattle.laws.proofs.Base.Lists.{drop-take}
 
 number-take : (w n : ℕ) (xs : List ℕ) → w ≤ n → number w (take n xs) ≡ number w xs
@@ -22,6 +22,10 @@ field-take f n xs h =
     ∙ ap (λ l. number (f .width) l) (drop-take (f .place) b xs)
     ∙ number-take (f .width) b (drop (f .place) xs) (omega arith)
 
--- two lists with one part
+-- two lists that agree on their first n
 pub field-same : (f : Field) (n : ℕ) (xs ys : List ℕ) → after f ≤ n → take n xs ≡ take n ys → numberIn f xs ≡ numberIn f ys
 field-same f n xs ys h e = sym (field-take f n xs h) ∙ ap (numberIn f) e ∙ field-take f n ys h
+
+-- and two that agree on the bytes of a field
+pub bytes-same : (f : Field) (xs ys : List ℕ) → bytesIn f xs ≡ bytesIn f ys → numberIn f xs ≡ numberIn f ys
+bytes-same f xs ys e = field-same (field 0 (f .width)) (f .width) (drop (f .place) xs) (drop (f .place) ys) (omega arith) e

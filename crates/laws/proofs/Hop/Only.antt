@@ -6,7 +6,7 @@ use Prim.Native.Nat.{ℕ, zero, suc, _+_, _-_}
 use lib.Dec.{eqb, leb}
 use lib.ListN.{length, drop, length-drop}
 use native.Mathlib.Omega.{arith}
-use Rattle.layout.specs.Bytes.{All, field, numberIn, bytesIn}
+use Rattle.layout.specs.Bytes.{All, numberIn, bytesIn}
 use Rattle.layout.specs.Fields.Descriptor
 use Rattle.layout.specs.Fields.Header as Field
 use Rattle.layout.specs.Fields.Passport
@@ -17,7 +17,7 @@ use Rattle.layout.specs.Reading.Sheets.{start, sizeChecks}
 use Rattle.layout.specs.Refusals.{TOO-LONG, SHORT, NOT-SXF, LENGTH}
 use Rattle.layout.specs.Walk.{Walk, ends, stops, meets, answer, always, _>>=_, _>>_, must, checks}
 use Rattle.layout.specs.declared.Hop.{Hop}
-use Rattle.laws.proofs.Base.Parts.{field-same}
+use Rattle.laws.proofs.Base.Parts.{field-same, bytes-same}
 
 -- a walk, and then two others that agree where it ends
 past-same : {A B : Type 0} (P : ℕ → Type 0) (w : Walk A) (f : A → List ℕ) (g k : A → Walk B) → All P (past w f)
@@ -31,9 +31,9 @@ checks-same : (xs ys : List ℕ) → length xs ≡ length ys → headerIn xs .id
 unfolding hopChecks
 checks-same xs ys l i t = λ j.
     must (leb Field.size (l j)) SHORT 0
-    ∷ must (eqb (i j) Field.identifier-is) NOT-SXF 0
-    ∷ must (leb Field.size (t j)) LENGTH 4
-    ∷ must (leb (t j) (l j)) SHORT 4
+    ∷ must (eqb (i j) Field.identifier-is) NOT-SXF (Field.identifier .place)
+    ∷ must (leb Field.size (t j)) LENGTH (Field.total .place)
+    ∷ must (leb (t j) (l j)) SHORT (Field.total .place)
     ∷ []
 
 -- the header at a place says the same in two lists, as far as hopping looks at it: identifier, total length, code
@@ -110,8 +110,8 @@ hop-fields wanted s t len p d count same =
     let checks-are : startChecks s ≡ startChecks t = λ j.
     must (leb (len j) limit) TOO-LONG 0
     ∷ must (leb start (len j)) SHORT 0
-    ∷ must (eqb (p j) Passport.identifier-is) NOT-SXF 0
-    ∷ must (eqb (d j) Descriptor.identifier-is) NOT-SXF 400
+    ∷ must (eqb (p j) Passport.identifier-is) NOT-SXF (Passport.identifier .place)
+    ∷ must (eqb (d j) Descriptor.identifier-is) NOT-SXF (Descriptor.identifier .place)
     ∷ [] in
     ap (λ w. answer always w)
     (past-same (SameHeader s t) (checks 0 (startChecks s)) (λ _. passedFrom wanted (numberIn Descriptor.count s) start s)
@@ -142,9 +142,8 @@ pub hop-only : (wanted : ℕ) (s t : List ℕ) → length s ≡ length t
     → All (SameBytes s t) (passed wanted s)
     → hop wanted s ≡ hop wanted t
 hop-only wanted s t len passport descriptor count same =
-    hop-fields wanted s t len (field-same (field 0 4) 4 s t (omega arith) passport)
-    (field-same (field 0 4) 4 (drop 400 s) (drop 400 t) (omega arith) descriptor)
-    (field-same (field 0 4) 4 (drop 440 s) (drop 440 t) (omega arith) count) (headers-same s t (passed wanted s) same)
+    hop-fields wanted s t len (bytes-same Passport.identifier s t passport) (bytes-same Descriptor.identifier s t descriptor)
+    (bytes-same Descriptor.count s t count) (headers-same s t (passed wanted s) same)
 
 -- The frame rests on the four bytes at 348 besides.
 pub frame-only : (s t : List ℕ) → length s ≡ length t
@@ -157,4 +156,4 @@ pub frame-only : (s t : List ℕ) → length s ≡ length t
 unfolding frame
 frame-only s t len passport code descriptor count same =
     hop-only (numberIn Passport.frame s) s t len passport descriptor count same
-    ∙ ap (λ c. hop c t) (field-same (field 0 4) 4 (drop 348 s) (drop 348 t) (omega arith) code)
+    ∙ ap (λ c. hop c t) (bytes-same Passport.frame s t code)

@@ -91,5 +91,5 @@ frame-reads year s bs u e =
     let head = sheet-ends (upTo year) s u (cond-back (isSetting year) _ _ _ _ u e .1) .0 in
     let code : frameCode (u .head) ≡ numberIn Passport.frame s =
     ap frameCode head ∙ field-take (Passport.inRest Passport.frame) (Passport.rest .width) (drop (Passport.rest .place) s) (omega arith)
-    ∙ ap (number 4) (drop-drop 252 96 s) in
+    ∙ ap (number (Passport.frame .width)) (drop-drop (Passport.inRest Passport.frame .place) (Passport.rest .place) s) in
     hop-reads (numberIn Passport.frame s) year s bs u e ∙ ap (λ c. given (firstWith c 0 start (u .records))) (sym code)

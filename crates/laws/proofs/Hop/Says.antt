@@ -26,10 +26,11 @@ identified : (place : ℕ) (s : List ℕ) → holds (hopChecks (drop place s)) �
 unfolding hopChecks
 identified place s c = c .1 .0
 
--- h is the record that is k-th from a place on, where so many were seen before, and its header has the identifier, the wanted code and the total
--- length that is told
-record Said (wanted seen place : ℕ) (s : List ℕ) (h : Hop) : Type 0 where
+-- h is the record that is k-th from a place on, of so many that are left, where so many were seen before, and its header has the identifier, the
+-- wanted code and the total length that is told
+record Said (wanted left seen place : ℕ) (s : List ℕ) (h : Hop) : Type 0 where
   k : ℕ
+  counted : k < left
   number : h .«record» ≡ seen + k
   there : h .place ≡ placeIn k place s
   identifier : at (h .place) s .identifier ≡ Field.identifier-is
@@ -37,7 +38,7 @@ record Said (wanted seen place : ℕ) (s : List ℕ) (h : Hop) : Type 0 where
   total : at (h .place) s .total ≡ h .total
 
 says-from : (wanted left seen place : ℕ) (s : List ℕ) (h : Hop) → answer always (hopFrom wanted left seen place s) ≡ given h → h .found ≡ true
-    → Said wanted seen place s h
+    → Said wanted left seen place s h
 unfolding hopFrom
 says-from wanted zero seen place s h e f =
     absurd (let q : false ≡ true = ap (λ (x : Hop). x .found) (given-inj e) ∙ f in let z : _≡_ {A = ℕ} 0 1 = cc in omega arith)
@@ -46,18 +47,30 @@ says-from wanted (suc left) seen place s h e f =
     go (eqb-true _ _ (identified place s c)) (λ g. says-from wanted left (suc seen) (place + at place s .total) s h g f) (eqb (at place s .code) wanted) refl e1
   where
     go : at place s .identifier ≡ Field.identifier-is
-        → (answer always (hopFrom wanted left (suc seen) (place + at place s .total) s) ≡ given h → Said wanted (suc seen) (place + at place s .total) s h)
+        → (answer always (hopFrom wanted left (suc seen) (place + at place s .total) s) ≡ given h
+        → Said wanted left (suc seen) (place + at place s .total) s h)
         → (b : Bool) → eqb (at place s .code) wanted ≡ b
         → answer always (cond b (ends (hit seen place (at place s .total))) (hopFrom wanted left (suc seen) (place + at place s .total) s)) ≡ given h
-        → Said wanted seen place s h
+        → Said wanted (suc left) seen place s h
     go i k true b g =
-        rw (← (given-inj g)) (record { k = 0; number = omega arith; there = refl; identifier = i; code = eqb-true _ _ b; total = refl })
+        rw (← (given-inj g))
+        (record { k = 0; counted = omega arith; number = omega arith; there = refl; identifier = i; code = eqb-true _ _ b; total = refl })
     go i k false b g =
         let q = k g in
-        record { k = suc (q .k); number = omega (arith, q .number); there = q .there; identifier = q .identifier; code = q .code; total = q .total }
+        record {
+          k = suc (q .k);
+          counted = omega (arith, q .counted);
+          number = omega (arith, q .number);
+          there = q .there;
+          identifier = q .identifier;
+          code = q .code;
+          total = q .total;
+        }
 
--- The header at the hit has the identifier, the wanted code and the total length that is told, and as many hops as its number lead to it.
+-- A hit is one of the counted records. Its header has the identifier, the wanted code and the total length that is told, and as many hops as its
+-- number lead to it.
 pub record HitSays (wanted : ℕ) (s : List ℕ) (h : Hop) : Type 0 where
+  pub counted : h .«record» < numberIn Descriptor.count s
   pub there : h .place ≡ placeIn (h .«record») start s
   pub identifier : headerIn (drop (h .place) s) .identifier ≡ Field.identifier-is
   pub code : headerIn (drop (h .place) s) .code ≡ wanted
@@ -69,7 +82,13 @@ hit-says wanted s h e f =
     checks-case always 0 (startChecks s) _ h e λ c y e1.
     let q = says-from wanted (numberIn Descriptor.count s) 0 start s h e1 f in
     let k : q .k ≡ h .«record» = omega (arith, q .number) in
-    record { there = q .there ∙ ap (λ n. placeIn n start s) k; identifier = q .identifier; code = q .code; total = q .total }
+    record {
+      counted = omega (arith, k, q .counted);
+      there = q .there ∙ ap (λ n. placeIn n start s) k;
+      identifier = q .identifier;
+      code = q .code;
+      total = q .total;
+    }
 
 before-from : (wanted left seen place : ℕ) (s : List ℕ) (h : Hop) → answer always (hopFrom wanted left seen place s) ≡ given h
     → (k : ℕ) → seen + k < cond (h .found) (h .«record») (h .looked) → at (placeIn k place s) s .code ≡ wanted → ⊥

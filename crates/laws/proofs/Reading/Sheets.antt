@@ -30,6 +30,11 @@ use Rattle.laws.proofs.Reading.Records.{record-reads}
 use Rattle.laws.proofs.Encoding.Sums.{sum-fits}
 use Rattle.laws.proofs.Encoding.Uses.{sheet-uses}
 
+-- a length that is let through
+pub size-holds : (s : List ℕ) → holds (sizeChecks s) → (start ≤ length s) × (length s ≤ limit)
+unfolding sizeChecks
+size-holds s c = (leb-true start (length s) (c .1 .0), leb-true (length s) limit (c .0))
+
 pub records-fill : (al : ℕ → Bool) (n : ℕ)
     → Fills al (whole LEFT-OVER (times n recordWalk)) (flat encodeRecord) (λ l. (length l ≡ n) × All FineRecord l) (flat recordYears)
 records-fill al n =

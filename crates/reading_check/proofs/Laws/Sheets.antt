@@ -3,7 +3,7 @@ use mathlib.Core.Bool.{true, false}
 use mathlib.Core.List.{List, [], _++_}
 use mathlib.Core.Path.{_≡_, refl, sym, ap, _∙_}
 use Prim.Native.Nat.{ℕ, _+_, _-_, _^_, _≤_, _<_}
-use borrow.Author.Tests.{le-leb, lt-leb, leb-true}
+use borrow.Author.Tests.{le-leb, lt-leb}
 use lib.Dec.{leb}
 use lib.ListN.{length, take, drop, length-drop}
 use native.Mathlib.Nat.{add-zero}
@@ -38,7 +38,7 @@ use Rattle.laws.proofs.Base.Numbers.{number-bytes}
 use Rattle.laws.proofs.Base.Readers.{times-length}
 use Rattle.laws.proofs.Base.Walks.{bind-on, bind-refused, checks-append}
 use Rattle.laws.proofs.Encoding.Sums.{sum-fits}
-use Rattle.laws.proofs.Reading.Sheets.{sheet-sound}
+use Rattle.laws.proofs.Reading.Sheets.{size-holds, sheet-sound}
 
 -- what an answer is, by what the code made of it
 
@@ -93,10 +93,7 @@ module _ (s : List ℕ) (l : length s ≤ limit) (m : 452 ≤ length s) where
 -- the step of the checks on the sheet's length
 module _ (y : ℕ) (s : List ℕ) (r : Step) (n : Next Stp.Fine y 0 (sizeChecks s) r) where
   pub size-on : r ≡ Stp.Fine → (452 ≤ length s) × (length s ≤ limit)
-  unfolding sizeChecks
-  size-on e =
-      let h = step-holds y 0 (sizeChecks s) r n e in
-      (leb-true 452 (length s) (h .1 .0), leb-true (length s) limit (h .0))
+  size-on e = size-holds s (step-holds y 0 (sizeChecks s) r n e)
 
   pub size-stop : (q : Refusal) → r ≡ Stp.Refused q → Check.Refused q ≡ checkedOf (answer (upTo y) (sheetWalk s))
   unfolding sheetWalk checkedOf

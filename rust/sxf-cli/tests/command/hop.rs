@@ -88,7 +88,7 @@ fn a_sheet_that_is_not_accepted_may_have_its_frame_found() {
     }
 }
 
-/// One that is not found ends with 1 and is told as every refusal, with nothing on standard output.
+/// A sheet that is refused ends with 1 and is told as every refusal, with nothing on standard output.
 fn is_refused(sheet: &Path, words: &str) {
     for output in [on("frame", sheet, &[]), find(sheet, 0)] {
         assert_eq!((status(&output), output.stdout.len()), (1, 0), "{words}");
@@ -129,7 +129,7 @@ fn a_sheet_may_come_on_standard_input() {
     }
 }
 
-/// No setting is asked for, so none is taken; a code is a whole number.
+/// No setting is asked for, so none is taken. What is no code is told as `sxf select` tells it (index.rs).
 #[test]
 fn other_words_are_usage() {
     for words in [
@@ -143,14 +143,8 @@ fn other_words_are_usage() {
         assert_eq!(status(&output), 2, "{words:?}");
         told(&output);
     }
-    for code in ["4294967296", "-1", "0x10", "1.0", "frame", ""] {
-        for words in [&[&*format!("--code={code}")][..], &["--code", code]] {
-            let output = on("find", &sample("Q"), words);
-            assert_eq!(status(&output), 2, "{words:?}");
-            assert!(told(&output).contains("not a class code; they are whole numbers, 0 to 4294967295"), "{}", told(&output));
-        }
-    }
     assert_eq!(status(&on("frame", &sample("none-such"), &[])), 2);
+    assert_eq!(status(&on("frame", Path::new("."), &[])), 2);
 }
 
 #[test]

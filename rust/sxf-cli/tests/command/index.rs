@@ -330,9 +330,10 @@ fn sheet_or_index_may_come_on_standard_input() {
 fn a_code_is_a_whole_number() {
     for code in ["4294967296", "-1", "0x10", "1.0", "well", ""] {
         for words in [&[&*format!("--code={code}")][..], &["--code", code]] {
-            let output = on("select", &sample("Q"), words);
-            assert_eq!(status(&output), 2, "{words:?}");
-            assert!(told(&output).contains("not a class code; they are whole numbers, 0 to 4294967295"), "{}", told(&output));
+            for output in ["select", "find"].map(|command| on(command, &sample("Q"), words)) {
+                assert_eq!(status(&output), 2, "{words:?}");
+                assert!(told(&output).contains("not a class code; they are whole numbers, 0 to 4294967295"), "{}", told(&output));
+            }
         }
     }
     for words in [&["select", "x"][..], &["index", "x"], &["select", "--code", "0"], &["index", "-o", "x"]] {

@@ -5,7 +5,7 @@ use crate::archive;
 use crate::headers::{codes_in, looked_at, no_code, shortest};
 use crate::numbers::Numbers;
 use crate::reasons;
-use crate::sheet_damage::u32_in;
+use crate::stored::u32_in;
 use crate::tables::rows;
 use crate::tally::{Call, End, BY_CODE, TO_FRAME};
 use second::{Refusal, Table};
@@ -52,7 +52,7 @@ impl Judge {
             self.first_with(sheet, code);
         }
         if care == Care::Whole {
-            self.hops_are_readings(sheet, year, asked);
+            self.hops_where_accepted(sheet, year, asked);
         }
     }
 
@@ -78,11 +78,18 @@ impl Judge {
 
     /// "On an accepted sheet the answer equals the one from the full reading":
     /// the unfolded table tells the number of the first record with the code, and
-    /// the record of that number its place and total length.
+    /// the record of that number its place and total length. This sheet must be
+    /// accepted.
     pub fn hops_are_readings(&mut self, sheet: &[u8], year: u32, codes: &[u32]) {
+        let accepted = self.hops_where_accepted(sheet, year, codes);
+        self.same(|| format!("whether the sheet that is hopped over is accepted at {year}"), accepted, true);
+    }
+
+    /// The same for a sheet that may be refused, and whether it is accepted.
+    pub fn hops_where_accepted(&mut self, sheet: &[u8], year: u32, codes: &[u32]) -> bool {
         let archive::Checked { number, records, numbers, elements, bytes, .. } = archive::check(sheet, year);
         if number != OK {
-            return;
+            return false;
         }
         let sizes = [numbers, elements, bytes].map(|size| size as usize);
         let (_, (numbers, elements, bytes)) = archive::unfold_new(sheet, year, sizes);
@@ -101,6 +108,7 @@ impl Judge {
             self.same(asked, answer, hop(Ok(second::Hop { hit: Some(due), looked: number + 1 })));
             self.same(|| format!("code of record {number} at {year}"), record.code, u64::from(code));
         }
+        true
     }
 
     /// An answer rests only on what is looked at, and on these fields: all other
@@ -114,10 +122,10 @@ impl Judge {
         hop: impl Fn(&[u8]) -> archive::Hop,
         numbers: &mut Numbers,
     ) {
-        let mut other: Vec<u8> = sheet.iter().map(|byte| !byte).collect();
-        if numbers.chance(1, 2) {
-            other = numbers.bytes(sheet.len());
-        }
+        let mut other = match numbers.chance(1, 2) {
+            true => numbers.bytes(sheet.len()),
+            false => sheet.iter().map(|byte| !byte).collect(),
+        };
         let looked_at = looked_at(sheet, &answer);
         for field in looked_at.iter().chain(also).filter(|field| field.after() <= sheet.len()) {
             other[field.range()].copy_from_slice(&sheet[field.range()]);

@@ -1,11 +1,12 @@
 //! Hops over three records of 36 bytes, at 452, 488 and 524, with the codes 7, 8
 //! and 8; over sheets P, Q and E; and over what is none.
 
-use super::{put, sheet_e, sheet_p, sheet_q};
+use super::{sheet_e, sheet_p, sheet_q};
 use crate::archive::{self, Hop};
-use crate::hop_damage;
+use crate::hops::{no_hit, refused};
 use crate::judge::Judge;
 use crate::numbers::Numbers;
+use crate::stored::put;
 use sxf_sys::fields::{descriptor, header, passport, Field, LIMIT, START};
 use sxf_sys::refusals::{LENGTH, NOT_SXF, SHORT, TOO_LONG};
 
@@ -41,19 +42,11 @@ fn hit(record: u64, at: u64, total: u64, looked: u64) -> Hop {
     Hop { found: 1, record, at, total, looked, ..Hop::default() }
 }
 
-fn no_hit(looked: u64) -> Hop {
-    Hop { looked, ..Hop::default() }
-}
-
-fn refused(number: u64, place: u64) -> Hop {
-    Hop { number, place, ..Hop::default() }
-}
-
 /// What a hop to a code answers, and one to the frame of the sheet with this code
 /// in its passport; it may be too short to have one.
 fn says(judge: &mut Judge, name: &str, sheet: &[u8], code: u32, due: Hop) {
     let mut framed = sheet.to_vec();
-    hop_damage::put(&mut framed, passport::FRAME, code);
+    put(&mut framed, passport::FRAME, code);
     let answers = (judge.first_with(sheet, code), judge.frame_of(&framed));
     judge.same(|| format!("{name}, code {code}, by the archive and by hand"), answers, (due, due));
     // To alter all else of a longer one takes too much time.
@@ -130,8 +123,7 @@ pub fn refusals_of_head(judge: &mut Judge) {
     judge.accepted = true;
 }
 
-/// Identifier and total length of the second record, which come before its code;
-/// and too few bytes for a header.
+/// Identifier and total length of the second record, which come before its code.
 pub fn refusals_of_headers(judge: &mut Judge) {
     let no_identifier = three_with(header::IDENTIFIER.at(SECOND), 0x7FFF_7FFE);
     for (code, due) in [(7, hit(0, 452, 36, 1)), (8, refused(NOT_SXF, 488)), (9, refused(NOT_SXF, 488))] {
@@ -160,6 +152,12 @@ pub fn refusals_of_headers(judge: &mut Judge) {
         put(&mut neither, header::IDENTIFIER.at(SECOND), 0);
         says(judge, &format!("total length {total}, and no identifier"), &neither, 8, refused(NOT_SXF, 488));
     }
+    judge.accepted = true;
+}
+
+/// Too few bytes for a header, or for a record.
+pub fn cuts(judge: &mut Judge) {
+    let three = three();
     for (length, seven, eight) in [
         (FIRST, refused(SHORT, 452), refused(SHORT, 452)),
         (FIRST + 31, refused(SHORT, 452), refused(SHORT, 452)),
@@ -172,7 +170,7 @@ pub fn refusals_of_headers(judge: &mut Judge) {
         (END - 1, hit(0, 452, 36, 1), hit(1, 488, 36, 2)),
     ] {
         for (code, due) in [(7, seven), (8, eight)] {
-            says(judge, &format!("cut to {length} bytes"), &three()[..length], code, due);
+            says(judge, &format!("cut to {length} bytes"), &three[..length], code, due);
         }
     }
     judge.accepted = true;
