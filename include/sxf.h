@@ -345,18 +345,18 @@ sxf_written sxf_select(const uint8_t *sheet, size_t sheet_len, uint32_t year, ui
 
 /*
  * The first record with a wanted code, without reading the sheet: from header to header, up to the first hit or the last counted record. A header is
- * the 32 bytes that a record begins with. The whole sheet is lent, and only its first 452 bytes and the headers on the way are touched, so that
- * the time goes with the headers looked at.
+ * the 32 bytes that a record begins with: its identifier (FF 7F FF 7F) at +0, its total length at +4 and its code at +12, four bytes each, lowest first.
+ * The whole sheet is lent, and only its first 452 bytes and the headers on the way are touched, so that the time goes with the headers looked at.
  *
  * Where there is such a record, found is 1, record is its number, from 0, at is where it starts and total is its total length; the record lies within
- * the sheet. Else these four are 0; ask number first, since a refusal has found 0 too. looked is how many headers were looked at: record + 1, or
- * without a hit the count of records that the sheet states. What the record holds is told by the calls that check the sheet: sxf_record_at
- * takes its number.
+ * the sheet. Else these four are 0; ask number first, since a refusal has found 0 too. looked is how many headers were looked at: record + 1, or,
+ * where there is no such record, the count of records that the sheet states; in a refusal it is 0. What the record holds is told by the calls that
+ * check the sheet: sxf_record_at takes its number.
  *
  * The sheet is not checked, and no year is asked for. On a sheet that sxf_check accepts at some year, it is the first record with that code that
- * reading the sheet gives, or there is none. On other bytes the answer rests only on the sheet's length, its two identifiers (bytes 0 to 3 and 400 to 403),
- * its count of records (440 to 443) and the headers looked at. Of these only identifiers and the range of total lengths are checked: a damaged
- * count, code or length can give another record, or none, without a refusal.
+ * reading the sheet gives, or there is none. On other bytes the answer rests only on the sheet's length, its two identifiers ("SXF" and a zero at 0,
+ * "DAT" and a zero at 400), its count of records (440 to 443) and the headers looked at. Of these only identifiers and the range of total lengths are
+ * checked: a damaged count, code or length can give another record, or none, without a refusal.
  *
  * Refused are, in this order, a sheet over SXF_LIMIT bytes, SXF_TOO_LONG at 0, or under SXF_RECORDS_AT, SXF_SHORT at 0; another identifier at 0 or
  * at 400, SXF_NOT_SXF; then header by header, before its code is looked at: under 32 bytes left, SXF_SHORT, or another identifier, SXF_NOT_SXF, both

@@ -35,7 +35,8 @@
 //!
 //! # What the record holds
 //!
-//! The calls that check the sheet tell it: [`Sheet::record`](crate::Sheet::record) and [`record_at`](crate::record_at) take its number.
+//! The calls that check the sheet tell it: [`Sheet::record`](crate::Sheet::record) takes its number, and so does [`record_at`](crate::record_at), as
+//! a `u64`.
 //!
 //! ```
 //! # use sxf::Setting;

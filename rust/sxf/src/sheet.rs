@@ -184,7 +184,7 @@ impl<'a> Sheet<'a> {
     }
 
     /// Its frame: the first record with the class code that [`Head::frame_code`] has; none where no record has it. It goes over the rows before
-    /// it. Without reading the sheet [`frame`](crate::frame) finds it. A sheet that was read is not refused here.
+    /// it. The function [`sxf::frame`](crate::frame) finds it without reading the sheet. A sheet that was read is not refused here.
     ///
     /// ```
     /// # let bytes = include_bytes!("../../../samples/frame.sxf");
