@@ -1,6 +1,7 @@
 //! Times hopping from header to header. Finding the frame, where it is the first record, is timed on sheets of three lengths, since it must not
-//! take longer on a longer sheet. Hopping over all headers is timed beside checking the same sheet, and in a round each of the two has its turn.
-//! Each figure is the best of many rounds, and what is found must be what the sheet was made with. It ends with 1 if a figure is not what is required:
+//! take longer on a longer sheet. Hopping over all headers is timed beside checking the same sheet. In a round each of the two is run a few times in a
+//! row, so that it is also timed over what it left in the processor's caches itself, and not only over what the other did. Each figure is the best of
+//! many rounds, and what is found must be what the sheet was made with. It ends with 1 if a figure is not what is required:
 //!
 //!     rt staticlib sxf && cargo run --release --manifest-path rust/Cargo.toml -p measure -- hop
 use crate::sheets::{self, Kind};
@@ -10,7 +11,10 @@ use sxf::fields::START;
 use sxf::{Setting, LIMIT};
 use sxf_sys::{lent, Hop};
 
-const ROUNDS: usize = 60;
+const ROUNDS: usize = 200;
+
+/// How often checking, and then hopping, is timed in a round.
+const IN_A_ROW: usize = 4;
 
 /// How many calls a round has where one is too short to be timed.
 const CALLS: usize = 10_000;
@@ -78,16 +82,18 @@ fn time_frames() -> bool {
 
 /// The best times of checking a sheet and of hopping over all its headers, in milliseconds.
 fn check_and_hop(sheet: &[u8]) -> (f64, f64) {
-    let (mut check, mut hop) = (f64::MAX, f64::MAX);
+    let check = || {
+        black_box(lent::check(black_box(sheet), SETTING.year()));
+    };
+    let hop = || {
+        black_box(lent::first_with(black_box(sheet), NO_CODE));
+    };
+    let (mut checked, mut hopped) = (f64::MAX, f64::MAX);
     for _ in 0..ROUNDS {
-        check = check.min(milliseconds(|| {
-            black_box(lent::check(black_box(sheet), SETTING.year()));
-        }));
-        hop = hop.min(milliseconds(|| {
-            black_box(lent::first_with(black_box(sheet), NO_CODE));
-        }));
+        checked = (0..IN_A_ROW).map(|_| milliseconds(check)).fold(checked, f64::min);
+        hopped = (0..IN_A_ROW).map(|_| milliseconds(hop)).fold(hopped, f64::min);
     }
-    (check, hop)
+    (checked, hopped)
 }
 
 /// Times hopping over all headers beside checking, and tells whether it is as fast as is required.
