@@ -28,8 +28,8 @@ pub fn codes_in(sheet: &[u8]) -> Vec<u32> {
     headers(sheet).map(|at| u32_in(sheet, header::CODE.at(at))).collect()
 }
 
-/// A code that is none of these; where there is one, it differs in one bit from
-/// one of them.
+/// A code that is none of these: one bit from one of them, unless all such are
+/// among them.
 pub fn no_code(codes: &[u32], numbers: &mut Numbers) -> u32 {
     let own = if codes.is_empty() { 0 } else { numbers.pick(codes) };
     let (first, others) = (numbers.below(32), 0..32);

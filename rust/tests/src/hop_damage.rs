@@ -3,11 +3,11 @@
 
 use crate::numbers::Numbers;
 use crate::places::Bounds;
-use crate::stored::{put, u32_in};
+use crate::stored::{put_if_there, u32_in};
 use sxf_sys::fields::{descriptor, header, passport, Field, START};
 
-/// This count, none, and counts that a slip could take for it: beside it, the
-/// same in fewer bytes, and about the most that four bytes hold, with a sign and
+/// This count, 0, and counts that a slip could take for it: beside it, the same
+/// in fewer bytes, and about the most that four bytes hold, with a sign and
 /// without.
 pub fn counts(own: u32) -> Vec<u32> {
     let beside = [0, own.wrapping_sub(1), own, own.wrapping_add(1)];
@@ -79,7 +79,7 @@ fn identifier(numbers: &mut Numbers, sheet: &mut [u8], field: Field) -> String {
     let turned = u32_in(sheet, field) ^ 1 << numbers.below(32);
     let other = numbers.pick(&IDENTIFIERS);
     let identifier = numbers.pick(&[turned, other]);
-    put(sheet, field, identifier);
+    put_if_there(sheet, field, identifier);
     format!("identifier {identifier:#x} at {}", field.place)
 }
 
@@ -88,7 +88,7 @@ fn count(numbers: &mut Numbers, sheet: &mut [u8]) -> String {
     let fewer = numbers.below(u64::from(own) + 1) as u32;
     let other = numbers.pick(&counts(own));
     let count = numbers.pick(&[fewer, other, other]);
-    put(sheet, descriptor::COUNT, count);
+    put_if_there(sheet, descriptor::COUNT, count);
     format!("count {count}")
 }
 
@@ -97,6 +97,6 @@ fn total(numbers: &mut Numbers, sheet: &mut [u8], at: usize) -> String {
     let other = numbers.pick(&totals(u32_in(sheet, field), at, sheet.len()));
     let about_the_least = numbers.pick(&LEAST);
     let total = numbers.pick(&[about_the_least, other]);
-    put(sheet, field, total);
+    put_if_there(sheet, field, total);
     format!("total length {total} at {at}")
 }

@@ -6,7 +6,7 @@ use crate::archive::{self, Hop};
 use crate::hops::{no_hit, refused};
 use crate::judge::Judge;
 use crate::numbers::Numbers;
-use crate::stored::put;
+use crate::stored::{put, put_if_there};
 use sxf_sys::fields::{descriptor, header, passport, Field, LIMIT, START};
 use sxf_sys::refusals::{LENGTH, NOT_SXF, SHORT, TOO_LONG};
 
@@ -46,7 +46,7 @@ fn hit(record: u64, at: u64, total: u64, looked: u64) -> Hop {
 /// in its passport; it may be too short to have one.
 fn says(judge: &mut Judge, name: &str, sheet: &[u8], code: u32, due: Hop) {
     let mut framed = sheet.to_vec();
-    put(&mut framed, passport::FRAME, code);
+    put_if_there(&mut framed, passport::FRAME, code);
     let answers = (judge.first_with(sheet, code), judge.frame_of(&framed));
     judge.same(|| format!("{name}, code {code}, by the archive and by hand"), answers, (due, due));
     // To alter all else of a longer one takes too much time.
