@@ -65,6 +65,13 @@ static uint64_t sum_of(const uint8_t *s, size_t n)
     return sum;
 }
 
+static void put_sum_right(uint8_t *s, size_t n)
+{
+    uint64_t sum = sum_of(s, n);
+    for (size_t i = 0; i < 4; i++)
+        s[12 + i] = (uint8_t)(sum >> 8 * i);
+}
+
 static void sheets(void)
 {
     uint64_t t[NUMBERS], e[ELEMENTS];
@@ -136,11 +143,36 @@ static void marks(void)
     SAME(no_mark, SXF_TABLE, SXF_ROW_MARK, 0, 0);
 }
 
+/* An old letter in the last byte of each text field in turn: that field alone is not clean, and lengths and scale are as before. With no zero at
+   all the field is refused. */
+static void tails(void)
+{
+    static const size_t at[] = { SXF_DATE_AT, SXF_DESIGNATION_AT, SXF_TITLE_AT, SXF_DESIGNATION2_AT };
+    static const size_t size[] = { SXF_DATE_SIZE, SXF_TEXT_SIZE, SXF_TEXT_SIZE, SXF_TEXT_SIZE };
+    for (size_t i = 0; i < 4; i++) {
+        sxf_written made = written(2017, table, LENGTH);
+        SAME(made, 0, 0, 0, LENGTH);
+        sheet[at[i] + size[i] - 1] = 'z';
+        put_sum_right(sheet, LENGTH);
+        sxf_head dirty = sxf_head_of(sheet, LENGTH, 2017);
+        SAME(dirty, 0, 0, 0, 1, 2, 3, 4, 5, i != 0, i != 1, i != 2, i != 3);
+        /* the same by the names of its fields */
+        uint64_t clean[] = { dirty.date_clean, dirty.designation_clean, dirty.title_clean, dirty.designation2_clean };
+        SAME(clean, i != 0, i != 1, i != 2, i != 3);
+        memset(sheet + at[i], 'z', size[i]);
+        put_sum_right(sheet, LENGTH);
+        sxf_head no_zero = sxf_head_of(sheet, LENGTH, 2017);
+        SAME(no_zero, SXF_TEXT, at[i], 0, 0, 0, 0, 0, 0, 0, 0, 0, 0);
+    }
+    sxf_written again = written(2017, table, LENGTH);
+    SAME(again, 0, 0, 0, LENGTH);
+}
+
 static void heads(void)
 {
     sxf_head head = sxf_head_of(sheet, LENGTH, 2017), no_year = sxf_head_of(sheet, LENGTH, 2005);
-    SAME(head, 0, 0, 0, 1, 2, 3, 4, 5);
-    SAME(no_year, SXF_ASK, 0, 0, 0, 0, 0, 0, 0);
+    SAME(head, 0, 0, 0, 1, 2, 3, 4, 5, 1, 1, 1, 1);
+    SAME(no_year, SXF_ASK, 0, 0, 0, 0, 0, 0, 0, 0, 0, 0, 0);
     sxf_unit points = sxf_unit_of(sheet, LENGTH, 2017), cut = sxf_unit_of(sheet, 451, 2017);
     SAME(points, 0, 0, 0, SXF_DEVICE_POINTS, 0);
     SAME(cut, SXF_SHORT, 0, 0, 0, 0);
@@ -441,6 +473,7 @@ int main(void)
     sheets();
     records();
     marks();
+    tails();
     heads();
     meanings();
     coordinates();

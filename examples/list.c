@@ -1,10 +1,11 @@
 /*
- * list FILE COPY: lists the sheet in FILE, writes it back from its head and its record table to COPY, and compares the two.
+ * list FILE COPY: lists the sheet in FILE, writes it back from its head and its record table to COPY, and compares the two. The tails of its
+ * text fields are cleared in COPY, and its sum is that of the bytes that it has.
  *
  * It prints the lines of the program `listing`: length, sum and count of records, then for each record its number, place, total length,
  * code, number in group, group number, localisation, points of its first part and items; or REFUSED and the refusal. Between these stand
- * indented lines: the unit, the mark of a record that has it, and for each item its code, its type and its value. FILE may be as long as the
- * library takes, where `listing` stops at 65,536 bytes.
+ * indented lines: the unit, each text field whose tail is not clean, the mark of a record that has it, and for each item its code, its type and
+ * its value. FILE may be as long as the library takes, where `listing` stops at 65,536 bytes.
  *
  * Exit status: 0 listed and written back; 1 the sheet is refused, or COPY differs; 2 anything else, said on standard error.
  */
@@ -19,11 +20,12 @@ enum { LISTED = 0, REFUSED = 1, FAILED = 2 };
 
 static const uint32_t YEAR = 2017;
 
-/* A sheet's bytes, and its record table unfolded. */
+/* A sheet's bytes, its head, and its record table unfolded. */
 typedef struct {
     uint8_t *sheet;
     size_t length;
     sxf_checked sizes;
+    sxf_head head;
     uint64_t *table, *elements;
     uint8_t *bytes;
 } opened;
@@ -73,7 +75,7 @@ static int read_file(const char *path, opened *o)
     return status;
 }
 
-/* Checks the sheet to learn how much room its table takes, and unfolds it. */
+/* Checks the sheet to learn how much room its table takes, unfolds it, and asks for its head. */
 static int unfold(const char *path, opened *o)
 {
     o->sizes = sxf_check(o->sheet, o->length, YEAR);
@@ -85,7 +87,10 @@ static int unfold(const char *path, opened *o)
     if (o->table == NULL || o->elements == NULL || o->bytes == NULL)
         return failed(path, "out of memory");
     sxf_checked c = sxf_unfold(o->sheet, o->length, YEAR, o->table, o->sizes.numbers, o->elements, o->sizes.elements, o->bytes, o->sizes.bytes);
-    return c.number == SXF_OK ? LISTED : refused(path, c.number, c.place, c.year);
+    if (c.number != SXF_OK)
+        return refused(path, c.number, c.place, c.year);
+    o->head = sxf_head_of(o->sheet, o->length, YEAR);
+    return o->head.number == SXF_OK ? LISTED : refused(path, o->head.number, o->head.place, o->head.year);
 }
 
 /* A number of up to eight bytes, lowest first. */
@@ -108,6 +113,51 @@ static int print_unit(const char *path, const opened *o)
     else
         printf("  unit %s\n", names[u.unit]);
     return LISTED;
+}
+
+/* A text field: where it stands, how many bytes it has, the length of its text, and whether its tail is clean. */
+typedef struct {
+    const char *name;
+    size_t at, size;
+    uint64_t length, clean;
+} text_field;
+
+enum { TEXT_FIELDS = 4 };
+
+static void fields_of(const sxf_head *h, text_field fields[TEXT_FIELDS])
+{
+    const text_field all[TEXT_FIELDS] = {
+        { "date", SXF_DATE_AT, SXF_DATE_SIZE, h->date, h->date_clean },
+        { "designation", SXF_DESIGNATION_AT, SXF_TEXT_SIZE, h->designation, h->designation_clean },
+        { "title", SXF_TITLE_AT, SXF_TEXT_SIZE, h->title, h->title_clean },
+        { "designation2", SXF_DESIGNATION2_AT, SXF_TEXT_SIZE, h->designation2, h->designation2_clean },
+    };
+    memcpy(fields, all, sizeof all);
+}
+
+static void print_tails(const opened *o)
+{
+    text_field fields[TEXT_FIELDS];
+    fields_of(&o->head, fields);
+    for (size_t i = 0; i < TEXT_FIELDS; i++)
+        if (!fields[i].clean)
+            printf("  tail of %s not clean\n", fields[i].name);
+}
+
+/* Clears what stands after the first zero of each text field, and puts the sum right, which is what sxf_write makes of the sheet. */
+static void clear_tails(opened *o)
+{
+    enum { SUM_AT = 12, SUM_SIZE = 4 };
+    text_field fields[TEXT_FIELDS];
+    uint64_t sum = o->sizes.sum;
+    fields_of(&o->head, fields);
+    for (size_t i = 0; i < TEXT_FIELDS; i++)
+        for (size_t at = fields[i].at + fields[i].length + 1; at < fields[i].at + fields[i].size; at++) {
+            sum -= o->sheet[at];
+            o->sheet[at] = 0;
+        }
+    for (size_t i = 0; i < SUM_SIZE; i++)
+        o->sheet[SUM_AT + i] = (uint8_t)(sum >> 8 * i);
 }
 
 /* item has code, type, scale byte and the length of the value. A text is shown by its length, since its coding is the sheet's affair. */
@@ -159,9 +209,7 @@ static void print_records(const opened *o)
 static int write_back(const char *path, const opened *o, uint8_t *out, size_t out_len, uint64_t *length)
 {
     const uint8_t *s = o->sheet;
-    sxf_head h = sxf_head_of(s, o->length, YEAR);
-    if (h.number != SXF_OK)
-        return refused(path, h.number, h.place, h.year);
+    const sxf_head h = o->head;
     sxf_written w = sxf_write(YEAR, s + SXF_DATE_AT, h.date, s + SXF_DESIGNATION_AT, h.designation, (uint32_t)h.scale, s + SXF_TITLE_AT, h.title,
                               s + SXF_REST_AT, s + SXF_DESIGNATION2_AT, h.designation2, s + SXF_CARRIED_AT, o->table, o->sizes.numbers, o->elements,
                               o->sizes.elements, o->bytes, o->sizes.bytes, out, out_len);
@@ -169,20 +217,21 @@ static int write_back(const char *path, const opened *o, uint8_t *out, size_t ou
     return w.number == SXF_OK ? LISTED : refused(path, w.number, w.place, w.year);
 }
 
-static int copy(const char *path, const opened *o)
+static int copy(const char *path, opened *o)
 {
     uint64_t length = 0;
     uint8_t *out = room(o->length, 1);
     if (out == NULL)
         return failed(path, "out of memory");
     int status = write_back(path, o, out, o->length, &length);
+    clear_tails(o);
     if (status == LISTED) {
         FILE *f = fopen(path, "wb");
         int written = f != NULL && fwrite(out, 1, length, f) == length;
         if (f == NULL || fclose(f) != 0 || !written)
             status = failed(path, strerror(errno));
         else if (length != o->length || memcmp(out, o->sheet, o->length) != 0) {
-            fprintf(stderr, "list: %s: differs from the sheet that was read\n", path);
+            fprintf(stderr, "list: %s: differs from the sheet that was read, its tails cleared\n", path);
             status = REFUSED;
         }
     }
@@ -207,6 +256,7 @@ int main(int argc, char **argv)
         status = print_unit(argv[1], &o);
     }
     if (status == LISTED) {
+        print_tails(&o);
         print_records(&o);
         status = copy(argv[2], &o);
     }

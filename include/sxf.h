@@ -33,15 +33,16 @@
  * width would be misread, and an answer by value may be longer than the program thinks. So say what the program was written for, and ask the
  * archive once:
  *
- *     #if SXF_VERSION != 2
- *     #error "written for version 2 of sxf.h"
+ *     #if SXF_VERSION != 3
+ *     #error "written for version 3 of sxf.h"
  *     #endif
  *     if (sxf_version() != SXF_VERSION) ..
  *
+ * 3: sxf_head has four fields more, which tell whether the tails of the text fields are clean, and a sheet with a tail that is not is read.
  * 2: a record's row has nine numbers, and sxf_record the field mark. Headers of rows of eight numbers have no version, and their archives
  * no sxf_version.
  */
-#define SXF_VERSION 2
+#define SXF_VERSION 3
 
 #ifdef __cplusplus
 extern "C" {
@@ -55,7 +56,8 @@ enum {
     SXF_NOT_SXF = 3,      /* an identifier differs */
     SXF_EDITION = 4,      /* a fixed length or the edition differs */
     SXF_SUM = 5,          /* the sum differs; place 12 */
-    SXF_TEXT = 6,         /* a text field is not zero-ended and zero-filled, a text does not fit, or a closing zero is missing */
+    SXF_TEXT = 6,         /* reading: a text field has no zero at all; sxf_write: a text is too long for its field or has a zero in it; or a
+                             closing zero is missing */
     SXF_RESERVED = 7,     /* a value is not allowed at a flag, code or reserved field */
     SXF_TOO_NEW = 8,      /* a feature is later than the year asked for; the answer's year is the feature's */
     SXF_NOT_CARRIED = 9,  /* a binding vector or graphics */
@@ -71,8 +73,9 @@ enum {
     SXF_BAD_BLOCK = 18     /* a block of a code index has a wrong length, number, count, filling or sum; the place is the block's first byte */
 };
 
-/* Places in a sheet. Each text starts at its place and has the length that sxf_head_of answers. The carried bytes are the rest of the
-   passport, 96 to 399, and the four of the descriptor, 444 to 447. */
+/* Places in a sheet. Each of the four text fields starts at its place and has SXF_DATE_SIZE bytes or, the other three, SXF_TEXT_SIZE: its text, of the
+   length that sxf_head_of answers, a zero, and its tail, which is what stands after that first zero. The carried bytes are the rest of the passport,
+   96 to 399, and the four of the descriptor, 444 to 447. */
 enum {
     SXF_DATE_AT = 16,
     SXF_DESIGNATION_AT = 28,
@@ -82,6 +85,8 @@ enum {
     SXF_DESIGNATION2_AT = 408,
     SXF_CARRIED_AT = 444,
     SXF_RECORDS_AT = 452, /* the first record, where there is one */
+    SXF_DATE_SIZE = 12,
+    SXF_TEXT_SIZE = 32,
     SXF_REST_SIZE = 304,
     SXF_CARRIED_SIZE = 4,
     SXF_LIMIT = 16777216  /* bytes of a sheet at most */
@@ -148,9 +153,10 @@ typedef struct {
    sheet is checked at each call: to go through all records, unfold the sheet once. */
 sxf_record sxf_record_at(const uint8_t *sheet, size_t sheet_len, uint32_t year, uint64_t record);
 
-/* The head as sxf_write takes it: the lengths of the four texts, and the scale's denominator. */
+/* The head as sxf_write takes it: the lengths of the four texts, and the scale's denominator. Then, for each text field, whether its tail is clean:
+   1 where there are only zeros after the first one, or nothing; 0 where an editor left old letters there. */
 typedef struct {
-    uint64_t number, place, year, date, designation, title, designation2, scale;
+    uint64_t number, place, year, date, designation, title, designation2, scale, date_clean, designation_clean, title_clean, designation2_clean;
 } sxf_head;
 
 sxf_head sxf_head_of(const uint8_t *sheet, size_t sheet_len, uint32_t year);
@@ -243,11 +249,14 @@ typedef struct {
 } sxf_written;
 
 /*
- * Writes a sheet from its head and its record table, as sxf_head_of and sxf_unfold answer them. Texts are without a zero: the date is
- * at most 11 bytes, the others 31. rest has the 304 bytes from 96 on, carried the four from 444 on. The sum, the counts and all lengths
- * are computed. A record needs mark 1 where its first part has 65535 points or more, or a later one more than 65535; from 2004 on any record
- * may have it, and then its word is its first part's points. Else: SXF_TABLE for a mark over 1 and SXF_TOO_NEW for one before 2004, at the
- * mark's index; SXF_COUNT at a part's points. SXF_LIMIT bytes of out are always enough.
+ * Writes a sheet from its head and its record table, as sxf_head_of and sxf_unfold answer them. The date has at most 11 bytes, the other
+ * three texts 31; one that is longer or has a zero in it is SXF_TEXT. rest has the 304 bytes from 96 on, carried the four from 444 on. The sum,
+ * the counts and all lengths are computed. A record needs mark 1 where its first part has 65535 points or more, or a later one more than 65535;
+ * from 2004 on any record may have it, and then its word is its first part's points. Else: SXF_TABLE for a mark over 1 and SXF_TOO_NEW for one
+ * before 2004, at the mark's index; SXF_COUNT at a part's points. SXF_LIMIT bytes of out are always enough.
+ *
+ * What was read of a sheet, written for the same year, gives the sheet's bytes with the tails of its text fields cleared, which are then zeros, and
+ * the sum to match. Where sxf_head_of answers that all four are clean, that is its bytes.
  */
 sxf_written sxf_write(uint32_t year,
                       const uint8_t *date, size_t date_len,
@@ -386,7 +395,7 @@ sxf_hop sxf_frame_of(const uint8_t *sheet, size_t sheet_len);
 #endif
 SXF_SIZE(sxf_checked, 8);
 SXF_SIZE(sxf_record, 15);
-SXF_SIZE(sxf_head, 8);
+SXF_SIZE(sxf_head, 12);
 SXF_SIZE(sxf_unit, 5);
 SXF_SIZE(sxf_coordinate, 8);
 SXF_SIZE(sxf_corners, 12);

@@ -59,7 +59,16 @@ pub fn record_at(s: &[u8], setting: Setting, number: u64) {
     }
 }
 
-// The lengths of the texts, with the scale after the designation.
+// Whether a text field is clean.
+fn flag(clean: bool) {
+    if clean {
+        print::word(b" clean");
+    } else {
+        print::word(b" dirty");
+    }
+}
+
+// The lengths of the texts, with the scale after the designation, and which fields are clean.
 pub fn head_of(s: &[u8], setting: Setting) {
     match reading::heads::head_of(s, setting) {
         Headed::Head(h) => {
@@ -68,6 +77,10 @@ pub fn head_of(s: &[u8], setting: Setting) {
             number(h.scale as u64);
             number(h.title as u64);
             number(h.designation2 as u64);
+            flag(h.date_clean);
+            flag(h.designation_clean);
+            flag(h.title_clean);
+            flag(h.designation2_clean);
         }
         Headed::Refused(r) => {
             print::refused(r);

@@ -6,3 +6,4 @@ pub mod Sums
 pub mod Headers
 pub mod Kinds
 pub mod Rests
+pub mod Texts

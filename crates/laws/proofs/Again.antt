@@ -1,8 +1,9 @@
--- The round trips, at one and the same setting, and what is written for one year at every later one. (Demand 2: "Writing the reading of an
--- accepted sheet gives its bytes again; reading a written sheet gives back the table. No text is ever shortened." Demand 3: "What the
--- writer makes for a year reads the same at it and at every later year.")
+-- The round trips, at one and the same setting, and what is written for one year at every later one. (Demand 2, as 02, 6 has it: "writing
+-- the reading of an accepted sheet gives its bytes with those tails cleared and the sum to match"; "reading a written sheet gives back the
+-- table. No text is ever shortened." Demand 3: "What the writer makes for a year reads the same at it and at every later year.")
 use mathlib.Core.Bool.{true, false}
 use mathlib.Core.List.{List, [], _∷_}
+use mathlib.Core.Logic.{_↔_}
 use mathlib.Core.Path.{_≡_, refl, ap, sym, _∙_, subst}
 use Prim.Native.Nat.{ℕ, _≤_}
 use borrow.Author.Tests.{le-leb}
@@ -12,29 +13,87 @@ use Rattle.layout.specs.Answers.Calls.{andThen, reading, Rooms, inRooms, unfold
 use Rattle.layout.specs.Bytes.{All, Bytes}
 use Rattle.layout.specs.Fields.Descriptor
 use Rattle.layout.specs.Fields.Passport
+use Rattle.layout.specs.Layout.Cleared.{cleared}
 use Rattle.layout.specs.Layout.Encode.{encode}
 use Rattle.layout.specs.Layout.Fine.{FineHead}
 use Rattle.layout.specs.Layout.Uses.{years}
 use Rattle.layout.specs.Refusals.{TEXT}
 use Rattle.layout.specs.Shared.Carried.{restChecks}
+use Rattle.layout.specs.Shared.Tails.{AllClean, cleanOf}
 use Rattle.layout.specs.Shared.Texts.{isText}
 use Rattle.layout.specs.Sheet.{Head, Sheet, Table}
 use Rattle.layout.specs.Walk.{given, refused, answer, upTo, checks}
 use Rattle.layout.specs.Writing.Sheets.{titleRules, headWalk, tableWalk}
 use Rattle.layout.specs.Writing.Tables.{flatten}
 use Rattle.layout.specs.Years.{isSetting}
-use Rattle.laws.proofs.Base.Walks.{bind-on, bind-refused}
+use Rattle.laws.proofs.Base.Walks.{given-inj, bind-on, bind-refused}
 use Rattle.laws.proofs.Called.{WasRead, reading-sound, reading-complete, Wrote, written-sound, written-complete}
-use Rattle.laws.proofs.Encoding.Plain.{pool-bytes}
+use Rattle.laws.proofs.Cleared.{cleared-is, cleared-fine, cleared-old, cleared-length, cleared-clean}
+use Rattle.laws.proofs.Encoding.Plain.{encode-bytes, pool-bytes}
+use Rattle.laws.proofs.Encoding.Tails.{all-clean, clean-is}
 use Rattle.laws.proofs.Writing.Sheets.{Typed, fine-typed, text-on}
 
--- With room enough and one year for both, writing the reading of an accepted sheet gives its bytes again.
+-- A sheet that was read stays one when it is cleared.
+cleared-read : (year : ℕ) (s : List ℕ) (u : Sheet) → WasRead year s u → WasRead year (cleared s) (cleanOf u)
+cleared-read year s u r = record {
+  setting = r .setting;
+  fine = cleared-fine u (r .fine);
+  old = cleared-old u year .0 (r .old);
+  is = sym (cleared-is u (r .fine)) ∙ ap cleared (r .is);
+}
+
+-- Its length stays.
+pub same-length : (year : ℕ) (s : List ℕ) → Bytes s → (u : Sheet) → reading year s ≡ given u → length (cleared s) ≡ length s
+same-length year s bs u e =
+    let r = reading-sound year s u bs e in
+    subst (λ x. length (cleared x) ≡ length x) (r .is) (cleared-length u (r .fine))
+
+-- With room enough and one year for both, writing the reading of an accepted sheet gives its bytes with the tails cleared and the sum to
+-- match.
 pub written-again : (year : ℕ) (s : List ℕ) → Bytes s → (u : Sheet) → reading year s ≡ given u
-    → (room : ℕ) → length s ≤ room → written year (u .head) (flatten (u .records)) room ≡ given s
+    → (room : ℕ) → length s ≤ room → written year (u .head) (flatten (u .records)) room ≡ given (cleared s)
 written-again year s bs u e room enough =
-    let r : WasRead year s u = reading-sound year s u bs e in
-    written-complete year (u .head) (flatten (u .records)) room s (fine-typed (u .head) (r .fine .head)) (pool-bytes u (r .fine)) u
-    (record { setting = r .setting; fine = r .fine; old = r .old; head = refl; records = refl; is = r .is; fits = enough })
+    let r = reading-sound year s u bs e in
+    let w = cleared-read year s u r in
+    written-complete year (u .head) (flatten (u .records)) room (cleared s) (fine-typed (u .head) (r .fine .head)) (pool-bytes u (r .fine)) (cleanOf u)
+    (record {
+      setting = w .setting;
+      fine = w .fine;
+      old = w .old;
+      head = refl;
+      records = refl;
+      clean = all-clean (u .head);
+      is = w .is;
+      fits = omega (arith, same-length year s bs u e, enough);
+    })
+
+-- Where all four text fields are clean that is the sheet itself,
+pub clean-same : (year : ℕ) (s : List ℕ) → Bytes s → (u : Sheet) → reading year s ≡ given u → AllClean (u .tails) → cleared s ≡ s
+clean-same year s bs u e clean =
+    let r = reading-sound year s u bs e in
+    subst (λ x. cleared x ≡ x) (r .is) (cleared-clean u (r .fine) clean)
+
+-- so there writing the reading gives the bytes again.
+pub clean-again : (year : ℕ) (s : List ℕ) → Bytes s → (u : Sheet) → reading year s ≡ given u → AllClean (u .tails)
+    → (room : ℕ) → length s ≤ room → written year (u .head) (flatten (u .records)) room ≡ given s
+clean-again year s bs u e clean room enough =
+    written-again year s bs u e room enough ∙ ap given (clean-same year s bs u e clean)
+
+pub cleared-bytes : (year : ℕ) (s : List ℕ) → Bytes s → (u : Sheet) → reading year s ≡ given u → Bytes (cleared s)
+cleared-bytes year s bs u e =
+    let w = cleared-read year s u (reading-sound year s u bs e) in
+    subst (λ x. Bytes x) (w .is) (encode-bytes (cleanOf u) (w .fine))
+
+-- The cleared sheet is accepted at the settings at which the sheet is, and reads the same, all clean.
+pub cleared-reads : (year : ℕ) (s : List ℕ) → Bytes s → (u : Sheet) → reading year s ≡ given u
+    → (z : ℕ) → (reading z s ≡ given u) ↔ (reading z (cleared s) ≡ given (cleanOf u))
+cleared-reads year s bs u e z =
+    let r = reading-sound year s u bs e in
+    let bytes = cleared-bytes year s bs u e in (
+      λ g. reading-complete z (cleared s) (cleanOf u) (cleared-read z s u (reading-sound z s u bs g)),
+      λ g. let c = reading-sound z (cleared s) (cleanOf u) bytes g in
+          reading-complete z s u (record { setting = c .setting; fine = r .fine; old = cleared-old u z .1 (c .old); is = r .is }),
+    )
 
 older : (y z : ℕ) → y ≤ z → (l : List ℕ) → All (λ k. k ≤ y) l → All (λ k. k ≤ z) l
 older y z h [] f = tt
@@ -52,6 +111,14 @@ pub read-again : (year : ℕ) (h : Head) (t : Table) (room : ℕ) (s : List ℕ)
 read-again year h t room s typed bs e =
     let w = written-sound year h t room s typed bs e in
     (w .0, read-wrote year h t room s (w .0) (w .1) year (w .1 .setting) (omega arith), w .1 .head, w .1 .records)
+
+-- It is clean: its tails are the zeros that the writer makes.
+pub written-clean : (year : ℕ) (h : Head) (t : Table) (room : ℕ) (s : List ℕ) → Typed h → Bytes (t .bytes) → written year h t room ≡ given s
+    → (u : Sheet) → reading year s ≡ given u → u ≡ cleanOf u
+written-clean year h t room s typed bs e u g =
+    let w = written-sound year h t room s typed bs e in
+    let same : w .0 ≡ u = given-inj (sym (read-wrote year h t room s (w .0) (w .1) year (w .1 .setting) (omega arith)) ∙ g) in
+    subst (λ v. v ≡ cleanOf v) same (clean-is (w .0) (w .1 .fine) (w .1 .clean))
 
 -- Unfolding it, where each room is enough, gives that very table.
 pub unfolded-again : (year : ℕ) (h : Head) (t : Table) (room : ℕ) (s : List ℕ) → Typed h → Bytes (t .bytes) → written year h t room ≡ given s

@@ -106,7 +106,7 @@ numbers-bound u f =
     let near = all-near (u .records) (f .records) in
     omega (
       arith,
-      encode-length u (f .head) near,
+      encode-length u (f .head) (f .tails) near,
       flatten-sizes (u .records) near .0,
       sum-over NearRecord 21 rowNumbers recordBytes row-numbers (u .records) near,
     )
@@ -117,7 +117,7 @@ elements-bound u f =
     let twice : sumBy (λ r. 2 * rowElements r) (u .records) ≡ 2 * sumBy rowElements (u .records) = sum-twice rowElements (u .records) in
     omega (
       arith,
-      encode-length u (f .head) near,
+      encode-length u (f .head) (f .tails) near,
       flatten-sizes (u .records) near .1,
       twice,
       sum-over NearRecord 32 (λ r. 2 * rowElements r) recordBytes row-elements (u .records) near,
@@ -126,4 +126,9 @@ elements-bound u f =
 pub bytes-bound : (u : Sheet) → Fine u → start + length (flatten (u .records) .bytes) + length (u .records) * 32 ≤ length (encode u)
 bytes-bound u f =
     let near = all-near (u .records) (f .records) in
-    omega (arith, encode-length u (f .head) near, flatten-sizes (u .records) near .2, sum-over NearRecord 32 rowBytes recordBytes row-bytes (u .records) near)
+    omega (
+      arith,
+      encode-length u (f .head) (f .tails) near,
+      flatten-sizes (u .records) near .2,
+      sum-over NearRecord 32 rowBytes recordBytes row-bytes (u .records) near,
+    )

@@ -13,6 +13,7 @@ use Rattle.layout.specs.Layout.Encode.{encode}
 use Rattle.layout.specs.Layout.Fine.{Fine}
 use Rattle.layout.specs.Layout.Uses.{years}
 use Rattle.layout.specs.Reading.Sheets.{sheetWalk}
+use Rattle.layout.specs.Shared.Tails.{AllClean}
 use Rattle.layout.specs.Sheet.{Head, Sheet, Table}
 use Rattle.layout.specs.Walk.{given, answer, upTo}
 use Rattle.layout.specs.Writing.Sheets.{tableWalk}
@@ -44,12 +45,13 @@ reading-complete year s u r =
     let given-u = sheet-complete (upTo year) u (r .fine) (allowed-upTo year (years u) .1 (r .old)) in
     rw (r .setting) (subst (λ x. answer (upTo year) (sheetWalk x) ≡ given u) (r .is) given-u)
 
--- two fine sheets with one head and one table are one
-pub table-once : (u v : Sheet) → Fine u → Fine v → u .head ≡ v .head → flatten (u .records) ≡ flatten (v .records) → u ≡ v
-table-once u v f g h t =
+-- two fine and clean sheets with one head and one table are one
+pub table-once : (u v : Sheet) → Fine u → Fine v → AllClean (u .tails) → AllClean (v .tails) → u .head ≡ v .head
+    → flatten (u .records) ≡ flatten (v .records) → u ≡ v
+table-once u v f g c d h t =
     let only = table (v .head) (flatten (v .records)) (fine-typed (v .head) (g .head)) (pool-bytes v g) in
-    let a = only u .1 (f, h, t) in
-    let b = only v .1 (g, refl, refl) in
+    let a = only u .1 (f, h, t, c) in
+    let b = only v .1 (g, refl, refl, d) in
     cc
 
 -- s was written of the sheet u, whose head and table are h and t, at a setting and within a room
@@ -59,6 +61,7 @@ pub record Wrote (year : ℕ) (h : Head) (t : Table) (room : ℕ) (s : List ℕ)
   pub old : All (λ z. z ≤ year) (years u)
   pub head : u .head ≡ h
   pub records : flatten (u .records) ≡ t
+  pub clean : AllClean (u .tails)
   pub is : encode u ≡ s
   pub fits : length s ≤ room
 
@@ -79,6 +82,7 @@ module _ (year : ℕ) (h : Head) (t : Table) (room : ℕ) (s : List ℕ) where
           old = allowed-upTo year (years u) .0 (r .1);
           head = r .2;
           records = r .3;
+          clean = r .4;
           is = is;
           fits = subst (λ x. length x ≤ room) is (leb-true _ _ (fit .0));
         },
@@ -87,7 +91,7 @@ module _ (year : ℕ) (h : Head) (t : Table) (room : ℕ) (s : List ℕ) where
   pub written-complete : Typed h → Bytes (t .bytes) → (u : Sheet) → Wrote year h t room s u → written year h t room ≡ given s
   unfolding written
   written-complete ty bs u w =
-      let given-u = table-at (upTo year) h t ty bs u .1 (w .fine, allowed-upTo year (years u) .1 (w .old), w .head, w .records) in
+      let given-u = table-at (upTo year) h t ty bs u .1 (w .fine, allowed-upTo year (years u) .1 (w .old), w .head, w .records, w .clean) in
       let fits : leb (length (encode u)) room ≡ true = rw (w .is) (le-leb _ _ (w .fits)) in
       rw (w .setting, given-u, fits) (ap given (w .is))
 

@@ -4,5 +4,6 @@ pub mod Reading
 pub mod Writing
 pub mod Answers
 pub mod Shores
+pub mod Tails
 pub mod Index
 pub mod Hop

@@ -2,5 +2,6 @@
 pub mod Plain
 pub mod Lengths
 pub mod Sums
+pub mod Tails
 pub mod Uses
 pub mod Kinds

@@ -9,21 +9,27 @@ use Rattle.layout.specs.Bytes.{Bytes}
 use Rattle.layout.specs.Layout.Encode.{encode}
 use Rattle.layout.specs.Layout.Fine.{Fine}
 use Rattle.layout.specs.Layout.Uses.{years}
-use Rattle.layout.specs.Reading.Sheets.{sheetWalk}
+use Rattle.layout.specs.Reading.Sheets.{headIn, tailsIn, sheetWalk}
+use Rattle.layout.specs.Shared.Tails.{AllClean}
 use Rattle.layout.specs.Sheet.{Head, Sheet, Table}
 use Rattle.layout.specs.Walk.{outcome, ends, given, always}
 use Rattle.layout.specs.Writing.Sheets.{tableWalk}
 use Rattle.layout.specs.Writing.Tables.{flatten}
 use Rattle.laws.proofs.Base.Readers.{law-exact, law-read, law-once}
 use Rattle.laws.proofs.Base.Walks.{allowed-always, outcome-is}
-use Rattle.laws.proofs.Reading.Sheets.{sheet-law}
+use Rattle.laws.proofs.Reading.Sheets.{sheet-law, sheet-ends}
 use Rattle.laws.proofs.Writing.Sheets.{Typed, table-at}
 use Rattle.laws.proofs.Years.Own.{own-newest}
 use Rattle.laws.proofs.Years.Reading.{own-sheet}
 
--- For every list of bytes s and every sheet t: the 2017 walk of s ends in t exactly when t is fine and is written so.
+-- For every list of bytes s and every sheet t: the 2017 walk of s ends in t exactly when t, with the tails of its texts, is fine and is
+-- written so.
 pub exact : (s : List ℕ) → Bytes s → (t : Sheet) → (outcome (sheetWalk s) ≡ ends t) ↔ (Fine t × (encode t ≡ s))
 exact = law-exact sheetWalk encode Fine years sheet-law
+
+-- The tails are what was read past: what stands in the text fields after their first zero.
+pub read-past : (s : List ℕ) (t : Sheet) → outcome (sheetWalk s) ≡ ends t → (t .head ≡ headIn s) × (t .tails ≡ tailsIn s)
+read-past s t e = let r = sheet-ends always s t (outcome-is (sheetWalk s) t .0 e) in (r .0, r .2)
 
 -- The same of the 2017 reader as it is called: it gives t exactly when t is fine and is written so.
 pub exact-reading : (s : List ℕ) → Bytes s → (t : Sheet) → (reading 2017 s ≡ given t) ↔ (Fine t × (encode t ≡ s))
@@ -63,12 +69,13 @@ one-sheet = law-once sheetWalk encode Fine years sheet-law
 pub one-form : (s r : List ℕ) → Bytes s → Bytes r → (t : Sheet) → outcome (sheetWalk s) ≡ ends t → outcome (sheetWalk r) ≡ ends t → s ≡ r
 one-form s r bs br t e g = sym (encoded-read s bs t e) ∙ encoded-read r br t g
 
--- The writer's walk of a head and a table ends in u exactly when u is fine, its head is that head, and its records flatten to that table.
+-- The writer's walk of a head and a table ends in u exactly when u is fine and clean, its head is that head, and its records flatten to
+-- that table.
 pub table : (h : Head) (t : Table) → Typed h → Bytes (t .bytes) → (u : Sheet)
-    → (outcome (tableWalk h t) ≡ ends u) ↔ (Fine u × (u .head ≡ h) × (flatten (u .records) ≡ t))
+    → (outcome (tableWalk h t) ≡ ends u) ↔ (Fine u × (u .head ≡ h) × (flatten (u .records) ≡ t) × AllClean (u .tails))
 table h t ty bs u =
     let same = outcome-is (tableWalk h t) u in
     let at = table-at always h t ty bs u in (
-      λ e. let s = at .0 (same .0 e) in (s .0, s .2, s .3),
-      λ f. same .1 (at .1 (f .0, allowed-always (years u), f .1, f .2)),
+      λ e. let s = at .0 (same .0 e) in (s .0, s .2, s .3, s .4),
+      λ f. same .1 (at .1 (f .0, allowed-always (years u), f .1, f .2, f .3)),
     )

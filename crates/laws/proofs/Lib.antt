@@ -3,6 +3,7 @@ pub mod Exact
 pub mod Years
 pub mod Newest
 pub mod Again
+pub mod Alike
 pub mod Bounds
 pub mod Codings
 pub mod Index
@@ -12,6 +13,7 @@ pub mod Cases
 pub mod Samples
 pub mod Called
 pub mod Written
+pub mod Cleared
 pub mod Encoding
 pub mod Reading
 pub mod Writing

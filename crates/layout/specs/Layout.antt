@@ -2,5 +2,6 @@
 -- That the walk reads exactly these bytes, as these values, is for the laws to prove.
 pub mod Encode
 pub mod Fine
+pub mod Cleared
 pub mod Uses
 pub mod Sizes

@@ -21,7 +21,7 @@ EDITION = 4
 abbrev pub SUM : ℕ
 SUM = 5
 
--- a text field is not zero-ended and zero-filled; a closing zero is missing
+-- a text field without a zero; a text that is too long for its field, or has a zero; a closing zero is missing
 abbrev pub TEXT : ℕ
 TEXT = 6
 

@@ -49,8 +49,16 @@ pub record Head : Type 0 where
   -- the four bytes at 444
   pub carried : List ℕ
 
+-- what stands after the first zero of the four text fields: "old letters", or zeros (02, 6)
+pub record Tails : Type 0 where
+  pub date : List ℕ
+  pub designation : List ℕ
+  pub title : List ℕ
+  pub designation2 : List ℕ
+
 pub record Sheet : Type 0 where
   pub head : Head
+  pub tails : Tails
   pub records : List Record
 
 -- the record table, and beside it "a pool of elements as stored bits and a pool of bytes"

@@ -65,13 +65,17 @@ pub enum Found {
 }
 
 // The head of a sheet, as the writer takes it: the lengths of the four texts, which start at 16, 28, 64 and 408, and the scale. The
-// carried bytes are the 304 from 96 on and the four at 444.
+// carried bytes are the 304 from 96 on and the four at 444. A text field is clean if it has only zeros after its text.
 pub struct HeadAt {
     pub date: usize,
     pub designation: usize,
     pub scale: u32,
     pub title: usize,
     pub designation2: usize,
+    pub date_clean: bool,
+    pub designation_clean: bool,
+    pub title_clean: bool,
+    pub designation2_clean: bool,
 }
 
 pub enum Headed {

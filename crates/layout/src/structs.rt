@@ -1,7 +1,7 @@
 // The answers as programs in C hold them: structs by value, whose first number is 0 for success. (include/sxf.h)
 
 // The version of these structs and of the record table, `SXF_VERSION` of include/sxf.h.
-pub const VERSION: u32 = 2;
+pub const VERSION: u32 = 3;
 
 // number 0: accepted, with its sizes. Otherwise the refusal, and the sizes are 0.
 #[repr(C)]
@@ -69,7 +69,7 @@ pub struct SxfRecord {
     pub points: u64,
 }
 
-// number 0: the lengths of the four texts, and the scale. Otherwise the refusal, and the rest is 0.
+// number 0: the lengths of the four texts, the scale, and for each text field 1 if it is clean. Otherwise the refusal, and the rest is 0.
 #[repr(C)]
 pub struct SxfHead {
     pub number: u64,
@@ -80,6 +80,10 @@ pub struct SxfHead {
     pub title: u64,
     pub designation2: u64,
     pub scale: u64,
+    pub date_clean: u64,
+    pub designation_clean: u64,
+    pub title_clean: u64,
+    pub designation2_clean: u64,
 }
 
 // The units by their numbers.

@@ -1,8 +1,9 @@
 -- The round trips as promises of the calls' contracts: what `write` says it wrote is a sheet that the laws read back, and what `unfold` says it
--- read is a table that the laws write again. (Demand 2: "Writing the reading of an accepted sheet gives its bytes again; reading a written
--- sheet gives back the table.") `Typed h` and `Bytes` say no more than the types of what is lent (src/lent.rt); src/round.rt asks neither.
+-- read is a table that the laws write again. (Demand 2, as 02, 6 has it: "writing the reading of an accepted sheet gives its bytes with those
+-- tails cleared and the sum to match"; "reading a written sheet gives back the table.") `Typed h` and `Bytes` say no more than the types of
+-- what is lent (src/lent.rt); src/round.rt asks neither.
 use mathlib.Core.List.{List}
-use mathlib.Core.Path.{_≡_, refl, sym, ap, _∙_}
+use mathlib.Core.Path.{_≡_, refl, sym, ap, ap₂, _∙_, subst}
 use Prim.Native.Nat.{ℕ, _≤_}
 use lib.ListN.{length, take}
 use native.Mathlib.Omega.{arith}
@@ -10,7 +11,9 @@ use Rattle.layout.specs.Answers.Calls.{andThen, reading, inRooms, roomy, unfold
 use Rattle.layout.specs.Answers.Enums.{sizesOf, checkedOf, headAt, headedOf, writtenOf}
 use Rattle.layout.specs.Answers.Lent.{rooms, theNumbers, theElements, theBytes, theSheet}
 use Rattle.layout.specs.Bytes.{Bytes}
-use Rattle.layout.specs.Reading.Sheets.{headIn}
+use Rattle.layout.specs.Layout.Cleared.{cleared}
+use Rattle.layout.specs.Reading.Sheets.{headIn, tailsIn}
+use Rattle.layout.specs.Shared.Tails.{AllClean, cleanTails}
 use Rattle.layout.specs.Sheet.{Head, Sheet, Table}
 use Rattle.layout.specs.Walk.{Answer, given, refused}
 use Rattle.layout.specs.Writing.Tables.{table, flatten}
@@ -26,9 +29,9 @@ use Rattle.laws.proofs.Again as Law
 use Rattle.laws.proofs.Writing.Sheets.{Typed}
 use Rattle.laws.proofs.Written.{by-length}
 use Rattle.promises.proofs.Contracts.{Checks, Heads, Unfolds, Writes}
-use Rattle.promises.proofs.Heads.{head-is, head-taken, head-by}
+use Rattle.promises.proofs.Heads.{head-is, tails-are, head-given, head-by, says-clean, tails-clean}
 use Rattle.promises.proofs.Rooms.{Fit, rooms-on, roomy-back, part-again, part-within}
-use Rattle.promises.specs.Hands.{headBy, tableBy, TableWithin}
+use Rattle.promises.specs.Hands.{headBy, SaysClean, tableBy, TableWithin}
 use Rattle.reading.proofs.Laws.Seen.{by-accepted}
 
 module _ (y : ℕ) (h : Head) (t : Table) (o out : List ℕ) (n : ℕ) (w : Writes y h t o out (Write.Length n)) where
@@ -82,15 +85,17 @@ module _ (y : ℕ) (h : Head) (t : Table) (o out : List ℕ) (n : ℕ) (w : Writ
     accepted r c = (again .0, again .2, again .3, c ∙ ap checkedOf (again .1))
 
     -- The head is the one that was given: `head_of` answers its lengths and its scale, and the bytes that a caller then takes from the sheet
-    -- are that head, byte for byte.
-    pub head-again : (r : Headed) → Heads y sheet r → (a : HeadAt) × (r ≡ Head-of.Head a) × (a ≡ headAt h) × (headBy sheet a ≡ h)
+    -- are that head, byte for byte. All four text fields are clean.
+    pub head-again : (r : Headed) → Heads y sheet r
+        → (a : HeadAt) × (r ≡ Head-of.Head a) × (a ≡ headAt h (cleanTails h)) × (headBy sheet a ≡ h) × SaysClean a
     unfolding headedOf
     head-again r c =
-        let stands : headIn sheet ≡ h = head-is y sheet (again .0) (again .1) ∙ again .2 in (
-          headAt h,
-          c ∙ ap headedOf (again .1) ∙ ap (λ k. Head-of.Head (headAt k)) (again .2),
+        let clean = Law.written-clean y h t (length o) sheet typed bs was (again .0) (again .1) in (
+          headAt h (cleanTails h),
+          c ∙ ap headedOf (again .1 ∙ ap given clean) ∙ ap (λ k. Head-of.Head (headAt k (cleanTails k))) (again .2),
           refl,
-          ap (λ k. headBy sheet (headAt k)) (sym stands) ∙ head-taken sheet ∙ stands,
+          head-given sheet h (cleanTails h) (head-is y sheet (again .0) (again .1) ∙ again .2),
+          says-clean h,
         )
 
 -- The other way round: the sheet s was unfolded.
@@ -122,17 +127,28 @@ module _ (y : ℕ) (s : List ℕ) (t₀ e₀ b₀ t₁ e₁ b₁ : List ℕ) (z 
       )
 
   -- A sheet that unfolds has a head: the two calls accept together.
-  pub heads-too : (r : Headed) → Heads y s r → r ≡ Head-of.Head (headAt (headIn s))
+  pub heads-too : (r : Headed) → Heads y s r → r ≡ Head-of.Head (headAt (headIn s) (tailsIn s))
   unfolding headedOf
-  heads-too r c = c ∙ ap headedOf (got .1) ∙ ap (λ h. Head-of.Head (headAt h)) (sym (head-is y s (got .0) (got .1)))
+  heads-too r c =
+      c ∙ ap headedOf (got .1) ∙ ap Head-of.Head (sym (ap₂ headAt (head-is y s (got .0) (got .1)) (tails-are y s (got .0) (got .1))))
 
-  -- Writing the reading of an accepted sheet gives its bytes again. The sheet was unfolded and its head asked for; the writer is given that
-  -- head as a caller has it (`headBy`), and of each slice as much as the reader said it wrote (`tableBy`).
+  -- Writing the reading of an accepted sheet gives its bytes with the tails cleared and the sum to match. The sheet was unfolded and its head
+  -- asked for; the writer is given that head as a caller has it (`headBy`), and of each slice as much as the reader said it wrote (`tableBy`).
   pub written-again : Bytes s → (a : HeadAt) → Heads y s (Head-of.Head a) → (o out : List ℕ) (r : Written) → length s ≤ length o
-      → Writes y (headBy s a) (tableBy z t₁ e₁ b₁) o out r → (r ≡ Write.Length (length s)) × (out ≡ over s o)
+      → Writes y (headBy s a) (tableBy z t₁ e₁ b₁) o out r → (r ≡ Write.Length (length s)) × (out ≡ over (cleared s) o)
   unfolding writtenOf
   written-again bs a c o out r room w =
       let head : headBy s a ≡ got .0 .head = head-by y s a c ∙ head-is y s (got .0) (got .1) in
-      let all : written y (headBy s a) (tableBy z t₁ e₁ b₁) (length o) ≡ given s =
-      (λ j. written y (head j) (table-by j) (length o)) ∙ Law.written-again y s bs (got .0) (got .1) (length o) room in
-      (w .0 ∙ ap writtenOf all, w .1 ∙ ap (λ x. lent theSheet x o) all)
+      let all : written y (headBy s a) (tableBy z t₁ e₁ b₁) (length o) ≡ given (cleared s) =
+      (λ j. written y (head j) (table-by j) (length o)) ∙ Law.written-again y s bs (got .0) (got .1) (length o) room in (
+        w .0 ∙ ap writtenOf all ∙ ap Write.Length (Law.same-length y s bs (got .0) (got .1)),
+        w .1 ∙ ap (λ x. lent theSheet x o) all,
+      )
+
+  -- Where `head_of` says that all four text fields are clean, these are the sheet's bytes.
+  pub clean-again : Bytes s → (a : HeadAt) → Heads y s (Head-of.Head a) → SaysClean a → (o out : List ℕ) (r : Written) → length s ≤ length o
+      → Writes y (headBy s a) (tableBy z t₁ e₁ b₁) o out r → (r ≡ Write.Length (length s)) × (out ≡ over s o)
+  clean-again bs a c clean o out r room w =
+      let again = written-again bs a c o out r room w in
+      let tails = subst (λ x. AllClean x) (tails-are y s (got .0) (got .1)) (tails-clean y s a c clean) in
+      (again .0, again .1 ∙ ap (λ x. over x o) (Law.clean-same y s bs (got .0) (got .1) tails))

@@ -34,6 +34,21 @@ use Rattle.promises.proofs.Contracts.{Checks, Heads, Units, Cornered, F
 use Rattle.promises.proofs.Rooms.{Fit, rooms-on, roomy-back}
 use Rattle.reading.proofs.Laws.Seen.{by-accepted}
 
+-- `unfold` of a sheet that is read as t answers and fills the slices as t's table says, or gives ROOM at the first slice that is too small.
+pub unfold-told : (y : ℕ) (s : List ℕ) (t : Sheet) → reading y s ≡ given t → (t₀ e₀ b₀ t₁ e₁ b₁ : List ℕ) (r : Checked) → Unfolds y s t₀ e₀ b₀ t₁ e₁ b₁ r
+    → (r ≡ checkedOf (andThen (inRooms (rooms t₀ e₀ b₀) (flatten (t .records))) (λ _. given t)))
+    × (t₁ ≡ lent theNumbers (inRooms (rooms t₀ e₀ b₀) (flatten (t .records))) t₀)
+    × (e₁ ≡ lent theElements (inRooms (rooms t₀ e₀ b₀) (flatten (t .records))) e₀)
+    × (b₁ ≡ lent theBytes (inRooms (rooms t₀ e₀ b₀) (flatten (t .records))) b₀)
+unfolding roomy unfolded
+unfold-told y s t read t₀ e₀ b₀ t₁ e₁ b₁ r c =
+    let filled = ap (λ a. andThen a (λ u. inRooms (rooms t₀ e₀ b₀) (flatten (u .records)))) read in (
+      c .0 ∙ ap (λ a. checkedOf (andThen a (λ u. andThen (inRooms (rooms t₀ e₀ b₀) (flatten (u .records))) (λ _. given u)))) read,
+      c .1 .0 ∙ ap (λ a. lent theNumbers a t₀) filled,
+      c .1 .1 .0 ∙ ap (λ a. lent theElements a e₀) filled,
+      c .1 .1 .1 ∙ ap (λ a. lent theBytes a b₀) filled,
+    )
+
 module _ (s : List ℕ) (bs : Bytes s) where
   -- s is the sheet t, written so
   abbrev pub Is : Sheet → Type 0
@@ -67,20 +82,13 @@ module _ (s : List ℕ) (bs : Bytes s) where
     read : reading 2017 s ≡ given t
     read = exact-reading s bs t .1 is
 
-    -- and then answers and fills them as that sheet's table says, or gives ROOM at the first slice that is too small.
+    -- and then answers and fills them as that sheet's table says.
     pub unfold-as : (t₀ e₀ b₀ t₁ e₁ b₁ : List ℕ) (r : Checked) → Unfolds 2017 s t₀ e₀ b₀ t₁ e₁ b₁ r
         → (r ≡ checkedOf (andThen (inRooms (rooms t₀ e₀ b₀) (flatten (t .records))) (λ _. given t)))
         × (t₁ ≡ lent theNumbers (inRooms (rooms t₀ e₀ b₀) (flatten (t .records))) t₀)
         × (e₁ ≡ lent theElements (inRooms (rooms t₀ e₀ b₀) (flatten (t .records))) e₀)
         × (b₁ ≡ lent theBytes (inRooms (rooms t₀ e₀ b₀) (flatten (t .records))) b₀)
-    unfolding roomy unfolded
-    unfold-as t₀ e₀ b₀ t₁ e₁ b₁ r c =
-        let filled = ap (λ a. andThen a (λ u. inRooms (rooms t₀ e₀ b₀) (flatten (u .records)))) read in (
-          c .0 ∙ ap (λ a. checkedOf (andThen a (λ u. andThen (inRooms (rooms t₀ e₀ b₀) (flatten (u .records))) (λ _. given u)))) read,
-          c .1 .0 ∙ ap (λ a. lent theNumbers a t₀) filled,
-          c .1 .1 .0 ∙ ap (λ a. lent theElements a e₀) filled,
-          c .1 .1 .1 ∙ ap (λ a. lent theBytes a b₀) filled,
-        )
+    unfold-as = unfold-told 2017 s t read
 
     -- the slices, where all of it fits
     pub unfold-fills : (t₀ e₀ b₀ t₁ e₁ b₁ : List ℕ) (r : Checked) → Unfolds 2017 s t₀ e₀ b₀ t₁ e₁ b₁ r → Fit (rooms t₀ e₀ b₀) (flatten (t .records))
@@ -94,7 +102,7 @@ module _ (s : List ℕ) (bs : Bytes s) where
         )
 
     -- The other calls answer of that sheet too.
-    pub head-as : (r : Headed) → Heads 2017 s r → r ≡ Head-of.Head (headAt (t .head))
+    pub head-as : (r : Headed) → Heads 2017 s r → r ≡ Head-of.Head (headAt (t .head) (t .tails))
     unfolding headedOf
     head-as r c = c ∙ ap headedOf read
 

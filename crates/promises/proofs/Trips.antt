@@ -13,7 +13,9 @@ use Rattle.layout.specs.Answers.Lent.{headOf, rooms}
 use Rattle.layout.specs.Bytes.{Bytes, Field, after, bytesIn}
 use Rattle.layout.specs.Fields.Descriptor
 use Rattle.layout.specs.Fields.Passport
-use Rattle.layout.specs.Reading.Sheets.{headIn}
+use Rattle.layout.specs.Layout.Cleared.{cleared}
+use Rattle.layout.specs.Reading.Sheets.{headIn, tailsIn}
+use Rattle.layout.specs.Shared.Tails.{AllClean}
 use Rattle.layout.specs.Sheet.{Head, Sheet, Table}
 use Rattle.layout.specs.Walk.{given}
 use Rattle.layout.specs.Writing.Tables.{table}
@@ -27,12 +29,13 @@ use Rattle.layout.specs.declared.Refusal.{Refusal}
 use Rattle.layout.specs.declared.Sizes.{Sizes}
 use Rattle.layout.specs.declared.Written.the-variants as Write
 use Rattle.layout.specs.declared.Written.{Written}
+use Rattle.laws.proofs.Again.{clean-same}
 use Rattle.laws.proofs.Writing.Sheets.{Typed}
 use Rattle.promises.proofs.Again.{length-within, read-again, unfold-again, table-within, heads-too, written-again}
 use Rattle.promises.proofs.Contracts.{Heads, Unfolds, Writes}
 use Rattle.promises.proofs.Heads.{head-within}
 use Rattle.promises.proofs.Later.{unfolds-at}
-use Rattle.promises.proofs.Rooms.{Fit}
+use Rattle.promises.proofs.Rooms.{Fit, roomy-back}
 use Rattle.promises.specs.Hands.{textBy, headBy, HeadWithin, tableBy, TableWithin}
 
 -- a refusal is no success
@@ -112,7 +115,7 @@ module _ (y : ℕ) (s t₀ e₀ b₀ t₁ e₁ b₁ : List ℕ) (v : Checked) (f
 
     module _ (k : Headed) (c : Heads y s k) where
       pub never-headless : (q : Refusal) → ¬ (k ≡ Head-of.Refused q)
-      never-headless q g = unlike-head q (headAt (headIn s)) (sym g ∙ heads-too y s t₀ e₀ b₀ t₁ e₁ b₁ z filled k c)
+      never-headless q g = unlike-head q (headAt (headIn s) (tailsIn s)) (sym g ∙ heads-too y s t₀ e₀ b₀ t₁ e₁ b₁ z filled k c)
 
       module _ (a : HeadAt) (head : k ≡ Head-of.Head a) where
         -- what is passed on to the writer stands in the sheet and in the slices
@@ -120,8 +123,14 @@ module _ (y : ℕ) (s t₀ e₀ b₀ t₁ e₁ b₁ : List ℕ) (v : Checked) (f
         passed-within = (head-within y s a (sym head ∙ c), table-within y s t₀ e₀ b₀ t₁ e₁ b₁ z filled)
 
         module _ (bs : Bytes s) (o out : List ℕ) (r : Written) (room : length s ≤ length o) (d : Writes y (headBy s a) (tableBy z t₁ e₁ b₁) o out r) where
-          pub back-written : (r ≡ Write.Length (length s)) × (out ≡ over s o)
-          back-written = written-again y s t₀ e₀ b₀ t₁ e₁ b₁ z filled bs a (sym head ∙ c) o out r room d
+          back : (r ≡ Write.Length (length s)) × (out ≡ over (cleared s) o)
+          back = written-again y s t₀ e₀ b₀ t₁ e₁ b₁ z filled bs a (sym head ∙ c) o out r room d
+
+          pub back-written : (u : Sheet) → roomy y s (rooms t₀ e₀ b₀) ≡ given u → (out ≡ over (cleared s) o) × (AllClean (u .tails) → out ≡ over s o)
+          back-written u e = (
+            back .1,
+            λ clean. back .1 ∙ ap (λ x. over x o) (clean-same y s bs u (roomy-back y s (rooms t₀ e₀ b₀) u e .0) clean),
+          )
 
           pub never-short : (q : Refusal) → ¬ (r ≡ Write.Refused q)
-          never-short q g = unlike-written q (length s) (sym g ∙ back-written .0)
+          never-short q g = unlike-written q (length s) (sym g ∙ back .0)

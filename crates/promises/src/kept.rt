@@ -49,9 +49,9 @@ pub fn unfold_kept(s: &[u8], table: &mut [u64], elements: &mut [u64], bytes: &mu
     unfold(s, Setting::Y2017, table, elements, bytes)
 }
 
-// Its head is the one that the layout has written.
+// Its head is the one that the layout has written, and its text fields are clean where the tails that it has written are.
 pub fn head_kept(s: &[u8]) -> Headed
-    ensures { λ r. ⌜ ((t : Sheet) → Fine t → encode t ≡ now (s .entry) → r ≡ Headed.Head (headAt (t .head))) ⌝ }
+    ensures { λ r. ⌜ ((t : Sheet) → Fine t → encode t ≡ now (s .entry) → r ≡ Headed.Head (headAt (t .head) (t .tails))) ⌝ }
 {
     lent::bytes(s);
     heads::head_of(s, Setting::Y2017)

@@ -10,7 +10,9 @@ ghost use Rattle.layout.specs.Answers.Lent.{headOf, rooms, theSheet};
 ghost use Rattle.layout.specs.Bytes.{bytesIn};
 ghost use Rattle.layout.specs.Fields.Descriptor;
 ghost use Rattle.layout.specs.Fields.Passport;
+ghost use Rattle.layout.specs.Layout.Cleared.{cleared};
 ghost use Rattle.layout.specs.Reading.Sheets.{start};
+ghost use Rattle.layout.specs.Shared.Tails.{AllClean};
 ghost use Rattle.layout.specs.Sheet.{Sheet};
 ghost use Rattle.layout.specs.Walk.{given};
 ghost use Rattle.layout.specs.Writing.Tables.{table as tableOf};
@@ -159,7 +161,8 @@ fn write_read(
     )
 }
 
-// Writing the reading of an accepted sheet gives its bytes again.
+// Writing the reading of an accepted sheet gives its bytes with the tails cleared and the sum to match; where all four text fields are clean,
+// its bytes.
 pub fn write_back(
     s: &[u8],
     setting: Setting,
@@ -171,7 +174,8 @@ pub fn write_back(
     ensures { λ r. ⌜ ((u : Sheet) → roomy (setting .year) (now (s .entry))
         (rooms (now (table .entry)) (now (elements .entry)) (now (bytes .entry))) ≡ given u
         → length (now (s .entry)) ≤ length (now (out .entry))
-        → (r ≡ true) × (now (out .exit) ≡ over (now (s .entry)) (now (out .entry)))) ⌝ }
+        → (r ≡ true) × (now (out .exit) ≡ over (cleared (now (s .entry))) (now (out .entry)))
+        × (AllClean (u .tails) → now (out .exit) ≡ over (now (s .entry)) (now (out .entry)))) ⌝ }
 {
     lent::bytes(s);
     match unfold(s, setting, table, elements, bytes) {

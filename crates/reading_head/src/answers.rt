@@ -1,7 +1,9 @@
-// What the head of an accepted sheet answers: the lengths of its texts and its scale, its unit, its plane corners. (01, Passport)
+// What the head of an accepted sheet answers: the lengths of its texts, its scale and which text fields are clean, its unit, its plane corners.
+// (01, Passport; 02, 6)
 ghost use mathlib.Core.Path.{_≡_};
-ghost use Prim.Native.Nat.{_≤_};
-ghost use lib.ListN.{length};
+ghost use Prim.Native.Nat.{_+_, _≤_};
+ghost use lib.ListN.{length, take, drop};
+ghost use Rattle.fields.specs.Texts.{textAt};
 ghost use Rattle.layout.specs.Answers.Corners.{cornerBits, planeCorners};
 ghost use Rattle.layout.specs.Answers.Enums.{headAt};
 ghost use Rattle.layout.specs.Answers.Units.{sheetUnit};
@@ -13,6 +15,7 @@ ghost use Rattle.reading_head.specs.Read.{Read};
 use fields::numbers;
 use fields::rests;
 use fields::texts;
+use fields::texts::TextAt;
 use layout::CornerBits;
 use layout::Corners;
 use layout::HeadAt;
@@ -23,30 +26,34 @@ use layout::rest;
 use meanings::corners;
 use meanings::units;
 
-// The lengths of the four texts, and the scale.
+// What is answered of the text field of n bytes at p.
+fn text_in(s: &[u8], p: usize, n: usize) -> TextAt
+    requires { ⌜ p + n ≤ length (now s) ⌝ }
+    ensures { λ r. ⌜ r ≡ textAt (take n (drop p (now (s .entry)))) ⌝ }
+{
+    texts::text_at(numbers::part(s, p, n))
+}
+
+// The lengths of the four texts, the scale, and which text fields are clean.
 pub fn head_in(s: &[u8]) -> HeadAt
     requires { ⌜ Read (now s) ⌝ }
-    ensures { λ r. ⌜ ((t : Sheet) → outcome (sheetWalk (now (s .entry))) ≡ ends t → r ≡ headAt (t .head)) ⌝ }
+    ensures { λ r. ⌜ ((t : Sheet) → outcome (sheetWalk (now (s .entry))) ≡ ends t → r ≡ headAt (t .head) (t .tails)) ⌝ }
 {
-    let date = texts::text_length(numbers::part(s, passport::DATE, passport::DATE_WIDTH));
-    let designation = texts::text_length(numbers::part(
-        s,
-        passport::DESIGNATION,
-        passport::DESIGNATION_WIDTH,
-    ));
+    let date = text_in(s, passport::DATE, passport::DATE_WIDTH);
+    let designation = text_in(s, passport::DESIGNATION, passport::DESIGNATION_WIDTH);
     let scale = numbers::u32_at(s, passport::SCALE);
-    let title = texts::text_length(numbers::part(s, passport::TITLE, passport::TITLE_WIDTH));
-    let designation2 = texts::text_length(numbers::part(
-        s,
-        descriptor::DESIGNATION,
-        descriptor::DESIGNATION_WIDTH,
-    ));
+    let title = text_in(s, passport::TITLE, passport::TITLE_WIDTH);
+    let designation2 = text_in(s, descriptor::DESIGNATION, descriptor::DESIGNATION_WIDTH);
     HeadAt {
-        date,
-        designation,
+        date: date.length,
+        designation: designation.length,
         scale,
-        title,
-        designation2,
+        title: title.length,
+        designation2: designation2.length,
+        date_clean: date.clean,
+        designation_clean: designation.clean,
+        title_clean: title.clean,
+        designation2_clean: designation2.clean,
     }
 }
 

@@ -4,6 +4,7 @@ ghost use Rattle.layout.specs.Answers.Calls.{reading};
 ghost use Rattle.layout.specs.Answers.Enums.{headedOf, unitIn, cornersIn};
 ghost use Rattle.layout.specs.Answers.Structs.{headRow, unitRow, cornersRow, bitsRow, bitsOf};
 ghost use Rattle.sxf.specs.Doubles.{Numbers, Defined};
+use crate::flags;
 use crate::units;
 use layout::CornerBits;
 use layout::Corners;
@@ -29,6 +30,10 @@ fn head_row(h: Headed) -> SxfHead
             title: x.title as u64,
             designation2: x.designation2 as u64,
             scale: x.scale as u64,
+            date_clean: flags::one_if(x.date_clean),
+            designation_clean: flags::one_if(x.designation_clean),
+            title_clean: flags::one_if(x.title_clean),
+            designation2_clean: flags::one_if(x.designation2_clean),
         },
         Headed::Refused(r) => SxfHead {
             number: r.number as u64,
@@ -39,6 +44,10 @@ fn head_row(h: Headed) -> SxfHead
             title: 0,
             designation2: 0,
             scale: 0,
+            date_clean: 0,
+            designation_clean: 0,
+            title_clean: 0,
+            designation2_clean: 0,
         },
     }
 }

@@ -1,22 +1,12 @@
 // The first record with a wanted code, and the frame of the sheet, without reading the sheet.
-ghost use mathlib.Core.Bool.{cond};
 ghost use mathlib.Core.Path.{_≡_};
 ghost use Rattle.layout.specs.Answers.Enums.{hoppedOf};
 ghost use Rattle.layout.specs.Answers.Structs.{hopRow};
 ghost use Rattle.layout.specs.Hop.{hop, frame};
+use crate::flags;
 use hop::sheets;
 use layout::Hopped;
 use layout::structs::SxfHop;
-
-// A test as a number: 1 where it holds.
-fn one_if(b: bool) -> u64
-    ensures { λ r. ⌜ r ≡ cond b 1 0 ⌝ }
-{
-    if b {
-        return 1;
-    }
-    0
-}
 
 fn hop_row(h: Hopped) -> SxfHop
     ensures { λ r. ⌜ r ≡ hopRow h ⌝ }
@@ -26,7 +16,7 @@ fn hop_row(h: Hopped) -> SxfHop
             number: 0,
             place: 0,
             year: 0,
-            found: one_if(x.found),
+            found: flags::one_if(x.found),
             record: x.record as u64,
             at: x.place as u64,
             total: x.total as u64,

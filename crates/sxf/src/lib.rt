@@ -5,6 +5,7 @@
 // this call alone). Promised: the contracts of the calls below, with the year as a number and `number` 0 for success; no call has a
 // `requires`, and two results that meet a contract are equal (proofs/Once.antt).
 pub mod coordinates;
+mod flags;
 pub mod heads;
 pub mod hops;
 pub mod indexes;

@@ -8,6 +8,7 @@ use Rattle.layout.specs.Answers.Enums.{refusal}
 use Rattle.layout.specs.Layout.Encode.{encode}
 use Rattle.layout.specs.Layout.Fine.{Fine}
 use Rattle.layout.specs.Layout.Sizes.{sumBy, recordBytes}
+use Rattle.layout.specs.Shared.Tails.{AllClean}
 use Rattle.layout.specs.Sheet.{Head, Sheet, Table}
 use Rattle.layout.specs.Walk.{Answer, given, refused, answer, upTo}
 use Rattle.layout.specs.Writing.Sheets.{tableWalk}
@@ -23,10 +24,11 @@ abbrev pub measuredOf : Answer Sheet → Rows
 measuredOf (given u) = Are.Fine (totalsOf u)
 measuredOf (refused number place year) = Are.Refused (refusal number place year)
 
--- a fine sheet of that head and that table has those totals, and fits a room
+-- a fine and clean sheet of that head and that table has those totals, and fits a room
 pub record Ready (h : Head) (t : Table) (z : Totals) (ol : ℕ) : Type 0 where
   pub sheet : Sheet
   pub fine : Fine sheet
+  pub clean : AllClean (sheet .tails)
   pub head : sheet .head ≡ h
   pub records : flatten (sheet .records) ≡ t
   pub totals : z ≡ totalsOf sheet

@@ -10,6 +10,7 @@ ghost use Rattle.layout.specs.Fields.Descriptor;
 ghost use Rattle.layout.specs.Fields.Passport;
 ghost use Rattle.layout.specs.Layout.Encode.{encode};
 ghost use Rattle.layout.specs.Layout.Fine.{Fine};
+ghost use Rattle.layout.specs.Shared.Tails.{AllClean};
 ghost use Rattle.layout.specs.Sheet.{Sheet};
 ghost use Rattle.layout.specs.Walk.{answer, upTo};
 ghost use Rattle.layout.specs.Writing.Sheets.{tableWalk};
@@ -85,7 +86,7 @@ fn emit_sheet(
 )
     requires { ⌜ Ready (headOf (now date) (now designation) scale (now title) (now rest) (now designation2) (now carried))
         (tableOf (now table) (now elements) (now bytes)) t (length (now out)) ⌝ }
-    ensures { λ _. ⌜ ((u : Sheet) → Fine u → u .head ≡ headOf (now (date .entry)) (now (designation .entry)) scale (now (title .entry))
+    ensures { λ _. ⌜ ((u : Sheet) → Fine u → AllClean (u .tails) → u .head ≡ headOf (now (date .entry)) (now (designation .entry)) scale (now (title .entry))
         (now (rest .entry)) (now (designation2 .entry)) (now (carried .entry))
         → flatten (u .records) ≡ tableOf (now (table .entry)) (now (elements .entry)) (now (bytes .entry))
         → now (out .exit) ≡ sets (now (out .entry)) 0 (encode u)) ⌝ }

@@ -5,7 +5,9 @@ use lib.ListN.{replicate}
 use Rattle.layout.specs.Bytes.{stored}
 use Rattle.layout.specs.Fields.Descriptor
 use Rattle.layout.specs.Fields.Passport
+use Rattle.layout.specs.Layout.Encode.{encodeHead}
 use Rattle.layout.specs.Shared.Carried.{restChecks, carriedChecks}
+use Rattle.layout.specs.Shared.Tails.{cleanTails}
 use Rattle.layout.specs.Shared.Texts.{padded, textFits}
 use Rattle.layout.specs.Sheet.{Head}
 use Rattle.layout.specs.Walk.{Check}
@@ -35,3 +37,7 @@ descriptorBytes designation2 count carried =
     ++ stored Descriptor.count count
     ++ carried
     ++ replicate (Descriptor.reserved .width) 0
+
+-- a head's bytes with clean tails, a count, and 0 for the sum
+abbrev pub cleanHead : Head → ℕ → List ℕ
+cleanHead h count = encodeHead h (cleanTails h) 0 count

@@ -1,15 +1,14 @@
 // The 452 bytes of passport and descriptor, and the sum.
 ghost use mathlib.Core.Path.{_≡_};
-ghost use Prim.Native.Nat.{_≤_};
+ghost use Prim.Native.Nat.{_<_, _≤_};
 ghost use lib.ListN.{length, take};
 ghost use lib.Seq.{sets};
-ghost use Rattle.writing_head.specs.Heads.{startBytes, nameBytes, descriptorBytes};
+ghost use Rattle.writing_head.specs.Heads.{startBytes, nameBytes, descriptorBytes, cleanHead};
 ghost use Rattle.layout.specs.Answers.Lent.{headOf};
 ghost use Rattle.layout.specs.Bytes.{bytes};
 ghost use Rattle.layout.specs.Fields.Descriptor;
 ghost use Rattle.layout.specs.Fields.Passport;
 ghost use Rattle.layout.specs.Fields.{limit};
-ghost use Rattle.layout.specs.Layout.Encode.{encodeHead};
 ghost use Rattle.layout.specs.Reading.Sheets.{sumOf, start};
 use fields::copies;
 use fields::numbers;
@@ -20,7 +19,7 @@ use layout::passport;
 
 // The passport up to its date, with 0 for the sum, which is not known before the rest is there.
 fn emit_start(date: &[u8], out: &mut [u8])
-    requires { ⌜ (length (now date) ≤ Passport.date .width) × (Passport.designation .place ≤ length (now out)) ⌝ }
+    requires { ⌜ (length (now date) < Passport.date .width) × (Passport.designation .place ≤ length (now out)) ⌝ }
     ensures { λ _. ⌜ now (out .exit) ≡ sets (now (out .entry)) 0 (startBytes (now (date .entry))) ⌝ }
 {
     numbers::put_u32(out, passport::IDENTIFIER, passport::IDENTIFIER_IS);
@@ -32,7 +31,7 @@ fn emit_start(date: &[u8], out: &mut [u8])
 
 // The passport from its designation on.
 fn emit_names(designation: &[u8], scale: u32, title: &[u8], rest: &[u8], out: &mut [u8])
-    requires { ⌜ (length (now designation) ≤ Passport.designation .width) × (length (now title) ≤ Passport.title .width)
+    requires { ⌜ (length (now designation) < Passport.designation .width) × (length (now title) < Passport.title .width)
         × (length (now rest) ≡ Passport.rest .width) × (Descriptor.identifier .place ≤ length (now out)) ⌝ }
     ensures { λ _. ⌜ now (out .exit) ≡ sets (now (out .entry)) (Passport.designation .place)
         (nameBytes (now (designation .entry)) scale (now (title .entry)) (now (rest .entry))) ⌝ }
@@ -49,7 +48,7 @@ fn emit_names(designation: &[u8], scale: u32, title: &[u8], rest: &[u8], out: &m
 }
 
 fn emit_descriptor(designation2: &[u8], count: u32, carried: &[u8], out: &mut [u8])
-    requires { ⌜ (length (now designation2) ≤ Descriptor.designation .width) × (length (now carried) ≡ Descriptor.carried .width)
+    requires { ⌜ (length (now designation2) < Descriptor.designation .width) × (length (now carried) ≡ Descriptor.carried .width)
         × (start ≤ length (now out)) ⌝ }
     ensures { λ _. ⌜ now (out .exit) ≡ sets (now (out .entry)) (Descriptor.identifier .place)
         (descriptorBytes (now (designation2 .entry)) count (now (carried .entry))) ⌝ }
@@ -84,11 +83,11 @@ pub fn emit(
     count: u32,
     out: &mut [u8],
 )
-    requires { ⌜ (length (now date) ≤ Passport.date .width) × (length (now designation) ≤ Passport.designation .width)
-        × (length (now title) ≤ Passport.title .width) × (length (now rest) ≡ Passport.rest .width)
-        × (length (now designation2) ≤ Descriptor.designation .width) × (length (now carried) ≡ Descriptor.carried .width) × (start ≤ length (now out)) ⌝ }
-    ensures { λ _. ⌜ now (out .exit) ≡ sets (now (out .entry)) 0 (encodeHead (headOf (now (date .entry)) (now (designation .entry)) scale
-        (now (title .entry)) (now (rest .entry)) (now (designation2 .entry)) (now (carried .entry))) 0 count) ⌝ }
+    requires { ⌜ (length (now date) < Passport.date .width) × (length (now designation) < Passport.designation .width)
+        × (length (now title) < Passport.title .width) × (length (now rest) ≡ Passport.rest .width)
+        × (length (now designation2) < Descriptor.designation .width) × (length (now carried) ≡ Descriptor.carried .width) × (start ≤ length (now out)) ⌝ }
+    ensures { λ _. ⌜ now (out .exit) ≡ sets (now (out .entry)) 0 (cleanHead (headOf (now (date .entry)) (now (designation .entry)) scale
+        (now (title .entry)) (now (rest .entry)) (now (designation2 .entry)) (now (carried .entry))) count) ⌝ }
 {
     emit_start(date, out);
     emit_names(designation, scale, title, rest, out);

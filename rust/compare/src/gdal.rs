@@ -61,10 +61,22 @@ calls! {
     GDALAllRegister() -> ();
     GDALVersionInfo(*const c_char) -> *const c_char;
     CPLSetErrorHandler(OnError) -> *mut c_void;
+    CSLDestroy(*mut *mut c_char) -> ();
+    VSIFree(*mut c_void) -> ();
     GDALOpenEx(*const c_char, c_uint, *const *const c_char, *const *const c_char, *const *const c_char) -> Handle;
     GDALClose(Handle) -> c_int;
     GDALDatasetGetLayerCount(Handle) -> c_int;
     GDALDatasetGetLayer(Handle, c_int) -> Handle;
+    GDALGetMetadataDomainList(Handle) -> *mut *mut c_char;
+    GDALGetMetadata(Handle, *const c_char) -> *mut *mut c_char;
+    OGR_L_GetName(Handle) -> *const c_char;
+    OGR_L_GetFeatureCount(Handle, c_int) -> i64;
+    OGR_L_GetExtent(Handle, *mut [f64; 4], c_int) -> c_int;
+    OGR_L_GetSpatialRef(Handle) -> Handle;
+    OGR_L_GetLayerDefn(Handle) -> Handle;
+    OGR_FD_GetFieldCount(Handle) -> c_int;
+    OGR_FD_GetFieldDefn(Handle, c_int) -> Handle;
+    OSRExportToWkt(Handle, *mut *mut c_char) -> c_int;
     OGR_L_ResetReading(Handle) -> ();
     OGR_L_GetNextFeature(Handle) -> Handle;
     OGR_F_Destroy(Handle) -> ();
@@ -113,6 +125,16 @@ fn text(chars: *const c_char) -> String {
     unsafe { CStr::from_ptr(chars) }.to_string_lossy().into_owned()
 }
 
+/// The texts of a list that ends with a null, or none where there is no list.
+fn listed(list: *mut *mut c_char) -> Vec<String> {
+    let mut texts = Vec::new();
+    if !list.is_null() {
+        let entries = (0..).map(|number| unsafe { *list.add(number) });
+        texts.extend(entries.take_while(|chars| !chars.is_null()).map(|chars| text(chars)));
+    }
+    texts
+}
+
 impl Gdal {
     /// The installed library, or nothing.
     pub fn load() -> Option<Gdal> {
@@ -133,10 +155,15 @@ impl Gdal {
         text((self.GDALVersionInfo)(c"RELEASE_NAME".as_ptr()))
     }
 
-    fn each(&self, path: &str, mut on: impl FnMut(Handle)) -> bool {
+    /// The sheet as GDAL opens it, or null.
+    fn open(&self, path: &str) -> Handle {
         let path = CString::new(path).expect("a path without zeros");
         let drivers = [c"SXF".as_ptr(), null()];
-        let sheet = (self.GDALOpenEx)(path.as_ptr(), VECTOR, drivers.as_ptr(), null(), null());
+        (self.GDALOpenEx)(path.as_ptr(), VECTOR, drivers.as_ptr(), null(), null())
+    }
+
+    fn each(&self, path: &str, mut on: impl FnMut(Handle)) -> bool {
+        let sheet = self.open(path);
         if sheet.is_null() {
             return false;
         }
@@ -154,6 +181,62 @@ impl Gdal {
         }
         (self.GDALClose)(sheet);
         true
+    }
+
+    /// What GDAL says of a sheet besides its features, or nothing if it does not open it: the sheet's metadata, and each layer's name, metadata,
+    /// count of features, extent, reference system and fields.
+    pub fn about(&self, path: &str) -> Option<Vec<String>> {
+        let sheet = self.open(path);
+        if sheet.is_null() {
+            return None;
+        }
+        let mut about = self.metadata(sheet);
+        for number in 0..(self.GDALDatasetGetLayerCount)(sheet) {
+            let layer = (self.GDALDatasetGetLayer)(sheet, number);
+            about.push(format!("layer {}", text((self.OGR_L_GetName)(layer))));
+            about.extend(self.metadata(layer));
+            about.push(format!("{} features", (self.OGR_L_GetFeatureCount)(layer, 1)));
+            let mut extent = [0.0; 4];
+            let known = (self.OGR_L_GetExtent)(layer, &mut extent, 1);
+            about.push(format!("extent {known} {extent:?}"));
+            about.push(format!("reference system {}", self.reference_system(layer)));
+            about.extend(self.fields(layer));
+        }
+        (self.GDALClose)(sheet);
+        Some(about)
+    }
+
+    /// The metadata of a sheet or a layer, in all its domains.
+    fn metadata(&self, of: Handle) -> Vec<String> {
+        let domains = (self.GDALGetMetadataDomainList)(of);
+        let mut metadata = Vec::new();
+        for domain in listed(domains) {
+            let name = CString::new(domain).expect("a domain without zeros");
+            metadata.extend(listed((self.GDALGetMetadata)(of, name.as_ptr())));
+        }
+        (self.CSLDestroy)(domains);
+        metadata
+    }
+
+    fn reference_system(&self, layer: Handle) -> String {
+        let system = (self.OGR_L_GetSpatialRef)(layer);
+        let mut chars = std::ptr::null_mut();
+        if !system.is_null() {
+            (self.OSRExportToWkt)(system, &mut chars);
+        }
+        let told = text(chars);
+        (self.VSIFree)(chars.cast());
+        told
+    }
+
+    /// The names and types of a layer's fields.
+    fn fields(&self, layer: Handle) -> Vec<String> {
+        let definition = (self.OGR_L_GetLayerDefn)(layer);
+        let field = |number: c_int| {
+            let field = (self.OGR_FD_GetFieldDefn)(definition, number);
+            format!("field {} of type {}", text((self.OGR_Fld_GetNameRef)(field)), (self.OGR_Fld_GetType)(field))
+        };
+        (0..(self.OGR_FD_GetFieldCount)(definition)).map(field).collect()
     }
 
     /// All features of a sheet in the order of their numbers, or nothing if GDAL does not open it.

@@ -9,6 +9,7 @@ mod random;
 mod refuse;
 mod scratch;
 mod sheets;
+mod tails;
 mod texts;
 mod timing;
 mod values;
@@ -35,10 +36,11 @@ fn main() {
         ["differ"] => differ::run(),
         ["refuse"] => refuse::run(),
         ["damage"] => damage::run(),
+        ["tails"] => tails::run(&gdal),
         ["time"] => timing::run(&gdal),
         ["gdal", path] => child::gdal(&gdal, path),
         _ => {
-            eprintln!("compare version | agree | differ | refuse | damage | time");
+            eprintln!("compare version | agree | differ | refuse | damage | tails | time");
             exit(1);
         }
     }

@@ -29,7 +29,7 @@ fn cases() -> Vec<(&'static str, Vec<u8>)> {
         ("a wrong sum, all else right", wrong_sum),
         ("another identifier at 0", changed(&|s| s[passport::IDENTIFIER.place] = b'A')),
         ("edition 5.0", changed(&|s| s[passport::EDITION.place + 2] = 5)),
-        ("a title that is not filled with zeros", changed(&|s| s[passport::TITLE.after() - 1] = b'x')),
+        ("a title without a zero", changed(&|s| s[passport::TITLE.range()].fill(b'x'))),
         ("a reserved bit of a record's byte 20", changed(&|s| s[header::BYTE20.at(START).place] |= 0x80)),
         ("a count of one for two records", changed(&|s| s[descriptor::COUNT.place] = 1)),
         ("a count of three for two records", changed(&|s| s[descriptor::COUNT.place] = 3)),

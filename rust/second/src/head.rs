@@ -19,6 +19,7 @@ const DATE: (usize, usize) = (16, 12);
 const DESIGNATION: (usize, usize) = (28, 32);
 const TITLE: (usize, usize) = (64, 32);
 const DESIGNATION_2: (usize, usize) = (408, 32);
+const TEXT_FIELDS: [(usize, usize); 4] = [DATE, DESIGNATION, TITLE, DESIGNATION_2];
 
 const SUM: usize = 12;
 const SCALE: usize = 60;
@@ -30,7 +31,7 @@ const CARRIED: usize = 444;
 const DESCRIPTOR_RESERVED: usize = 448;
 
 /// What a sheet says before its records, save for fixed fields, sum and
-/// count. Texts are without their zeros.
+/// count. Texts are what stands before the first zero of their fields.
 #[derive(Clone, PartialEq, Eq, Debug)]
 pub struct Head {
     /// The text at 16.
@@ -80,6 +81,62 @@ impl Head {
     }
 }
 
+/// What stands after the first zero of each text field. "Two other editors leave
+/// old letters" there (document 02, request 6). It is as long as the field has
+/// bytes left, so that behind a text which fills its field it is empty.
+#[derive(Clone, PartialEq, Eq, Debug)]
+pub struct Tails {
+    /// Behind the text at 16.
+    pub date: Vec<u8>,
+    /// Behind the text at 28.
+    pub designation: Vec<u8>,
+    /// Behind the text at 64.
+    pub title: Vec<u8>,
+    /// Behind the descriptor's text at 408.
+    pub designation2: Vec<u8>,
+}
+
+impl Tails {
+    /// The four of them, by rising place.
+    pub fn by_place(&self) -> [&[u8]; 4] {
+        [&self.date, &self.designation, &self.title, &self.designation2]
+    }
+
+    /// Of each by rising place "whether the rest was clean" (document 02, request
+    /// 6): all of it is zero.
+    pub fn clean(&self) -> [bool; 4] {
+        self.by_place().map(|tail| tail.iter().all(|&byte| byte == 0))
+    }
+
+    /// Whether all four are clean.
+    pub fn all_clean(&self) -> bool {
+        self.clean() == [true; 4]
+    }
+}
+
+/// Of a sheet "its bytes with those tails cleared and the sum to match" (document
+/// 02, request 6): whatever stands behind the first zero of a text field is zero.
+/// A field without a zero has no tail; bytes that are too few for a passport and
+/// a descriptor have no such field, and stay as they are.
+pub fn cleared(sheet: &[u8]) -> Vec<u8> {
+    let mut sheet = sheet.to_vec();
+    if sheet.len() < HEAD_BYTES {
+        return sheet;
+    }
+    for (place, length) in TEXT_FIELDS {
+        let mut zero_seen = false;
+        for byte in &mut sheet[place..place + length] {
+            if zero_seen {
+                *byte = 0;
+            }
+            zero_seen |= *byte == 0;
+        }
+    }
+    let sum = sum(&sheet);
+    put_u32(&mut sheet, SUM, sum);
+    sheet
+}
+
 /// What stands in a sheet's first 452 bytes.
 pub(crate) struct Opening {
     /// The stored sum, which is the right one.
@@ -88,6 +145,8 @@ pub(crate) struct Opening {
     pub(crate) records: u32,
     /// All that the writer takes again.
     pub(crate) head: Head,
+    /// What was read past in the text fields.
+    pub(crate) tails: Tails,
 }
 
 /// Reads what stands before the records: TOO LONG, 452 bytes, then passport
@@ -100,14 +159,14 @@ pub(crate) fn read_head(sheet: &[u8], setting: Setting) -> Result<Opening, Refus
     fixed(sheet, 8, EDITION, Refusal::EDITION)?;
     let sum = sum(sheet);
     fixed(sheet, SUM, sum, Refusal::SUM)?;
-    let date = read_text(sheet, DATE)?;
-    let designation = read_text(sheet, DESIGNATION)?;
-    let title = read_text(sheet, TITLE)?;
+    let (date, date_tail) = read_text(sheet, DATE)?;
+    let (designation, designation_tail) = read_text(sheet, DESIGNATION)?;
+    let (title, title_tail) = read_text(sheet, TITLE)?;
     let rest = bytes_at::<304>(sheet, REST);
     check_rest(&rest, setting)?;
     fixed(sheet, DESCRIPTOR, DESCRIPTOR_IDENTIFIER, Refusal::NOT_SXF)?;
     fixed(sheet, 404, DESCRIPTOR_LENGTH, Refusal::EDITION)?;
-    let designation2 = read_text(sheet, DESIGNATION_2)?;
+    let (designation2, designation2_tail) = read_text(sheet, DESIGNATION_2)?;
     let carried = bytes_at::<4>(sheet, CARRIED);
     check_carried(&carried, setting)?;
     fixed(sheet, DESCRIPTOR_RESERVED, 0, Refusal::RESERVED)?;
@@ -115,6 +174,7 @@ pub(crate) fn read_head(sheet: &[u8], setting: Setting) -> Result<Opening, Refus
         sum,
         records: u32_at(sheet, COUNT),
         head: Head { date, designation, scale: u32_at(sheet, SCALE), title, rest, designation2, carried },
+        tails: Tails { date: date_tail, designation: designation_tail, title: title_tail, designation2: designation2_tail },
     })
 }
 
@@ -160,15 +220,14 @@ fn sum(sheet: &[u8]) -> u32 {
     of(&sheet[..SUM]).wrapping_add(of(&sheet[SUM + 4..]))
 }
 
-/// The text of a field that holds it, then at least one zero, and zeros to
-/// its end.
-fn read_text(sheet: &[u8], (place, length): (usize, usize)) -> Result<Vec<u8>, Refusal> {
+/// A text field: its text, which is "before the first zero", and the tail behind
+/// it. TEXT "is now only given when it has no zero at all" (document 02, request
+/// 6).
+fn read_text(sheet: &[u8], (place, length): (usize, usize)) -> Result<(Vec<u8>, Vec<u8>), Refusal> {
     let field = &sheet[place..place + length];
-    let text_length = field.iter().take_while(|&&byte| byte != 0).count();
-    let (text, zeros) = field.split_at(text_length);
-    let zero_ended = !zeros.is_empty() && zeros.iter().all(|&byte| byte == 0);
-    require(zero_ended, Refusal::TEXT, place as u64)?;
-    Ok(text.to_vec())
+    let first_zero = field.iter().position(|&byte| byte == 0);
+    let text_length = first_zero.ok_or(Refusal::new(Refusal::TEXT, place as u64))?;
+    Ok((field[..text_length].to_vec(), field[text_length + 1..].to_vec()))
 }
 
 /// Whether a text may go into its field: no zero in it, and room for one

@@ -14,7 +14,7 @@
 //! has tests and no proof, and it follows the definition as one reader
 //! understood it.
 //!
-//! The words are the documents': passport, descriptor, record, part, item,
+//! The words are the documents': passport, descriptor, tail, record, part, item,
 //! coding, block, entry, hop, hit, place, refusal. Each refusal is checked in
 //! the documents' order, and the first that applies is the answer; no input
 //! makes a call panic.
@@ -45,7 +45,7 @@ mod tests;
 
 pub use codings::{from_utf16, to_utf16};
 pub use coordinate::{coordinate, Coordinate, Number};
-pub use head::Head;
+pub use head::{cleared, Head, Tails};
 pub use hop::{first_with, frame_of, Hit, Hop};
 pub use index::{index_build, index_check, index_read, index_select, select, Index};
 pub use meanings::{corners, unit, value, visibility, Unit, Value};

@@ -24,7 +24,8 @@ impl Refusal {
     pub const EDITION: u64 = 4;
     /// The sum differs.
     pub const SUM: u64 = 5;
-    /// A text field not zero-filled, or a closing zero missing.
+    /// In reading a text field without a zero, in writing a text that is too
+    /// long for its field or has a zero in it, or a closing zero missing.
     pub const TEXT: u64 = 6;
     /// A value not allowed at a flag, code or reserved field.
     pub const RESERVED: u64 = 7;

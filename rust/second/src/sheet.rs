@@ -1,6 +1,6 @@
 //! The reading of whole sheets.
 
-use crate::head::{read_head, Head, Opening, HEAD_BYTES};
+use crate::head::{read_head, Head, Opening, Tails, HEAD_BYTES};
 use crate::record::{read_record, Listener, Record};
 use crate::refusal::{require, Refusal};
 use crate::table::{Counting, Table, Unfolding};
@@ -30,6 +30,8 @@ pub struct Reading {
     pub records: u64,
     /// What stands before the records.
     pub head: Head,
+    /// What stands behind the head's texts, which the head does not keep.
+    pub tails: Tails,
     /// The records.
     pub table: Table,
 }
@@ -57,7 +59,8 @@ pub fn read(sheet: &[u8], year: u32) -> Result<Reading, Refusal> {
     let (setting, opening) = read_sheet(sheet, year, &mut counted)?;
     let mut unfolding = Unfolding::new(&counted);
     read_records(sheet, setting, opening.records, &mut unfolding)?;
-    Ok(Reading { sum: u64::from(opening.sum), records: u64::from(opening.records), head: opening.head, table: unfolding.table })
+    let Opening { sum, records, head, tails } = opening;
+    Ok(Reading { sum: u64::from(sum), records: u64::from(records), head, tails, table: unfolding.table })
 }
 
 /// Answers for the record with this number, from 0. The sheet's own refusals

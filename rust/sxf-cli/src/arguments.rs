@@ -25,7 +25,7 @@ pub enum Command {
         /// The sheet
         file: PathBuf,
     },
-    /// Say whether a sheet is accepted
+    /// Say whether a sheet is accepted, and which text fields have old letters after their first zero
     Check {
         /// The sheet
         file: PathBuf,
@@ -35,7 +35,7 @@ pub enum Command {
     /// Show a sheet, or one record of it, for people
     ///
     /// Texts are shown in their characters, with their coding. A byte that has no character is shown as \x98, and so is what would end or steer
-    /// the line: \n, \u{1b}.
+    /// the line: \n, \u{1b}. Old letters that stand after the first zero of a text field are shown under the field's text.
     Show {
         /// The sheet
         file: PathBuf,
@@ -50,7 +50,8 @@ pub enum Command {
     /// The first line is the head, then comes a line for each record. Texts are characters, and those with a byte that has no character are bytes;
     /// bytes, as other values and what is carried, are strings of hexadecimal digits; elements are numbers, and those that decimals do not
     /// carry safely are strings with their bits; all other numbers are integers. A record has `mark` 1 where its points at +30 are 65535, and no
-    /// `mark` where they are not. A tool that keeps doubles does not spoil these lines, and `sxf write` takes them.
+    /// `mark` where they are not. The head has a `title_tail`, and so for the other texts, where old letters stand after the text's first zero. A tool
+    /// that keeps doubles does not spoil these lines, and `sxf write` takes them.
     Table {
         /// The sheet
         file: PathBuf,
@@ -65,7 +66,9 @@ pub enum Command {
     /// The file is written whole or not at all. Where the head has `records`, so many records must follow; without it any number may. A text is
     /// taken as characters (title, label, an item's text), by its coding, or as bytes (title_bytes, label_bytes, an item's scale and value). A
     /// record whose line has no `mark` has it where its points need it: 65535 or more in the first part, more than 65535 in a later one. `word` is
-    /// taken as it stands, so who changes the points of the first part under the mark changes `word` too. The lines are UTF-8.
+    /// taken as it stands, so who changes the points of the first part under the mark changes `word` too. A `title_tail` is not written, nor is that
+    /// of another text: which old letters are cleared so is told on standard error, and where it cannot be told nothing is written. The lines are
+    /// UTF-8.
     Write {
         /// The JSON lines
         json: PathBuf,
@@ -73,6 +76,23 @@ pub enum Command {
         #[arg(short, long, value_name = "FILE")]
         output: PathBuf,
         /// Replace a file that is there, if it has write permission
+        #[arg(long)]
+        force: bool,
+        #[command(flatten)]
+        at: AtYear,
+    },
+    /// Write a sheet without the old letters that stand after the first zero of its text fields
+    ///
+    /// What stands there is cleared, in the date, the designation, the title and the descriptor's designation, and the sum put right; nothing else
+    /// changes. Which letters are cleared is told on standard error, a line for each field, or that there are none: the sheet is then written as it
+    /// was. Where it cannot be told nothing is written. The file is written whole or not at all.
+    Clean {
+        /// The sheet
+        file: PathBuf,
+        /// The sheet to write, or - for standard output
+        #[arg(short, long, value_name = "OUT")]
+        output: PathBuf,
+        /// Replace a file that is there, if it has write permission; it may be FILE itself
         #[arg(long)]
         force: bool,
         #[command(flatten)]

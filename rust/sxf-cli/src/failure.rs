@@ -1,5 +1,7 @@
-//! What goes wrong, and how the user learns of it: one line on standard error, and the exit status.
-use crate::quoted::visible;
+//! What goes wrong, and how the user learns of it: one line on standard error, and the exit status. What is told beside a sheet that is written goes
+//! there too.
+use crate::quoted::visible_line;
+use crate::standard;
 use std::fmt::Display;
 use std::io::{self, Write};
 use std::path::Path;
@@ -42,14 +44,27 @@ impl Failure {
     }
 }
 
-/// The longest line that is told: longer ones have a long string of the input in them.
+/// The longest line of a failure: longer ones have a long string of the input in them.
 const LONGEST: usize = 2000;
 
-/// Prints one line on standard error. Where even that fails, the exit status alone says what happened. A name of a file or a string of a JSON
-/// line may have line ends and what else a terminal acts on; they are shown as escapes.
+/// Where even the line cannot be printed, the exit status alone says what happened.
 fn told(line: &str, status: u8) -> ExitCode {
-    let _ = writeln!(io::stderr(), "sxf: {}", line.chars().take(LONGEST).map(visible).collect::<String>());
+    let line: String = line.chars().take(LONGEST).collect();
+    let _ = io::stderr().write_all(printed(&line).as_bytes());
     ExitCode::from(status)
+}
+
+/// Tells what is done beside what was asked for. That is no failure, but it is one where it cannot be told. The line is not cut, however long the
+/// file's name is: at its end stands what is told nowhere else.
+pub fn say(file: &Path, what: impl Display) -> io::Result<()> {
+    let line = printed(&format!("{}: {what}", file.display()));
+    let said = standard::error().and_then(|mut error| error.write_all(line.as_bytes()));
+    said.map_err(|error| io::Error::other(format!("standard error: {error}")))
+}
+
+/// A line of standard error. A name of a file or a string of a JSON line may have line ends and what else a terminal acts on.
+fn printed(line: &str) -> String {
+    format!("sxf: {}\n", visible_line(line))
 }
 
 /// An error on standard output: errors of other files are given the file's name where they arise.

@@ -1,11 +1,13 @@
 //! The head of a sheet that is written, out of its JSON line.
 use crate::hex::Hex;
 use crate::json::{HeadLine, EDITION};
+use crate::tails;
 use crate::text::Given;
-use sxf::fields::{Carried, Rest};
+use sxf::fields::{descriptor, passport, Carried, Rest};
+use sxf::tails::letters;
 use sxf::Head;
 
-/// The head with texts of its own.
+/// The head with texts of its own, and what is told of the old letters that it is written without.
 pub struct OwnHead {
     date: Vec<u8>,
     designation: Vec<u8>,
@@ -14,6 +16,8 @@ pub struct OwnHead {
     rest: Rest,
     designation2: Vec<u8>,
     carried: Carried,
+    /// A sentence for each tail that the line has and that is not clean.
+    pub cleared: Vec<String>,
 }
 
 impl OwnHead {
@@ -29,6 +33,7 @@ impl OwnHead {
             rest: fixed("rest", &line.rest)?,
             designation2: text("designation2", &line.designation2, &line.designation2_bytes)?,
             carried: fixed("flags", &line.carried)?,
+            cleared: cleared(line)?,
         })
     }
 
@@ -43,6 +48,29 @@ impl OwnHead {
             carried: &self.carried,
         }
     }
+}
+
+/// What is told of the old letters that a line has in its tails.
+fn cleared(line: &HeadLine<'_>) -> Result<Vec<String>, String> {
+    let mut told = Vec::new();
+    for (name, field, tail) in [
+        ("date", passport::DATE, &line.date_tail),
+        ("designation", passport::DESIGNATION, &line.designation_tail),
+        ("title", passport::TITLE, &line.title_tail),
+        ("designation2", descriptor::DESIGNATION, &line.designation2_tail),
+    ] {
+        let Some(Hex(tail)) = tail else { continue };
+        // The text's zero stands before it.
+        let most = field.width - 1;
+        if tail.len() > most {
+            return Err(format!("{name}_tail has {} bytes, where it has at most {most} in a sheet", tail.len()));
+        }
+        let letters = letters(tail);
+        if !letters.is_empty() {
+            told.push(tails::cleared(name, letters));
+        }
+    }
+    Ok(told)
 }
 
 /// The bytes of a text, which a head must have in one of its two fields.

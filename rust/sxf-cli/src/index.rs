@@ -15,7 +15,7 @@ pub fn run(file: &Path, target: &Target<'_>, setting: Setting, out: &mut dyn Wri
     if is_sheet(target.file, file) {
         return Err(Failure::trouble(target.file, "cannot be written: it is the sheet itself"));
     }
-    output::whole(target, index.bytes(), out)
+    output::whole(target, index.bytes(), out, || Ok(()))
 }
 
 /// Whether the target is the file that the sheet was read from, behind links: the one that is named, or the one that standard input is. Which

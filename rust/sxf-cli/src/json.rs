@@ -28,16 +28,23 @@ pub struct HeadLine<'a> {
     pub date: Option<String>,
     #[serde(default, deserialize_with = "some", skip_serializing_if = "Option::is_none")]
     pub date_bytes: Option<Hex<'a>>,
+    /// What stands after the text's first zero, where that is not clean, as for the other texts. It is told, and not written.
+    #[serde(default, deserialize_with = "some", skip_serializing_if = "Option::is_none")]
+    pub date_tail: Option<Hex<'a>>,
     #[serde(default, deserialize_with = "some", skip_serializing_if = "Option::is_none")]
     pub designation: Option<String>,
     #[serde(default, deserialize_with = "some", skip_serializing_if = "Option::is_none")]
     pub designation_bytes: Option<Hex<'a>>,
+    #[serde(default, deserialize_with = "some", skip_serializing_if = "Option::is_none")]
+    pub designation_tail: Option<Hex<'a>>,
     #[serde(deserialize_with = "whole")]
     pub scale: u32,
     #[serde(default, deserialize_with = "some", skip_serializing_if = "Option::is_none")]
     pub title: Option<String>,
     #[serde(default, deserialize_with = "some", skip_serializing_if = "Option::is_none")]
     pub title_bytes: Option<Hex<'a>>,
+    #[serde(default, deserialize_with = "some", skip_serializing_if = "Option::is_none")]
+    pub title_tail: Option<Hex<'a>>,
     /// The 304 bytes of the passport from +96 on.
     pub rest: Hex<'a>,
     /// The descriptor's designation.
@@ -45,6 +52,8 @@ pub struct HeadLine<'a> {
     pub designation2: Option<String>,
     #[serde(default, deserialize_with = "some", skip_serializing_if = "Option::is_none")]
     pub designation2_bytes: Option<Hex<'a>>,
+    #[serde(default, deserialize_with = "some", skip_serializing_if = "Option::is_none")]
+    pub designation2_tail: Option<Hex<'a>>,
     /// The four bytes at 444.
     #[serde(rename = "flags")]
     pub carried: Hex<'a>,

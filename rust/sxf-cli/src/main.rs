@@ -1,5 +1,6 @@
-//! The command `sxf`: sheets of SXF 4.0 are checked, listed, shown, unfolded to JSON lines and written from them, and their records selected by
-//! code, through an index or without one. The frame, and the first record of a code, are found without checking the sheet.
+//! The command `sxf`: sheets of SXF 4.0 are checked, listed, shown, unfolded to JSON lines and written from them, the tails of their text fields
+//! cleared, and their records selected by code, through an index or without one. The frame, and the first record of a code, are found without
+//! checking the sheet.
 //!
 //! What is accepted and refused is the proved library's answer; this program reads the files and prints what is answered. Exit status:
 //! 0 accepted or done, 1 refused, 2 usage, input or output.
@@ -7,6 +8,7 @@
 
 mod arguments;
 mod check;
+mod clean;
 mod element;
 mod escapes;
 mod failure;
@@ -27,6 +29,7 @@ mod select;
 mod show;
 mod standard;
 mod table;
+mod tails;
 mod text;
 mod write;
 mod years;
@@ -52,6 +55,7 @@ fn done(command: &Command, out: &mut dyn Write) -> Result<(), Failure> {
         Command::Show { file, record, at } => show::run(file, *record, at.year, out),
         Command::Table { file, bytes, at } => table::run(file, *bytes, at.year, out),
         Command::Write { json, output: file, force, at } => write::run(json, &Target { file, force: *force }, at.year, out),
+        Command::Clean { file, output, force, at } => clean::run(file, &Target { file: output, force: *force }, at.year, out),
         Command::Years { file } => years::run(file, out),
         Command::Index { file, output, force, at } => index::run(file, &Target { file: output, force: *force }, at.year, out),
         Command::Select { file, code, index, at } => select::run(file, *code, index.as_deref(), at.year, out),

@@ -13,25 +13,32 @@ pub struct Target<'a> {
     pub force: bool,
 }
 
-pub fn whole(target: &Target<'_>, bytes: &[u8], out: &mut dyn Write) -> Result<(), Failure> {
-    let file = target.file;
-    if file == Path::new("-") {
-        // Also a reader that goes is a failure here: what it has is not whole.
-        let there = standard::output_is_there();
-        return there.and_then(|()| out.write_all(bytes)).and_then(|()| out.flush()).map_err(Failure::standard_output);
+/// Writes the bytes. `tell` says what is lost by that, so it comes when all is ready and before they are there: where it fails, nothing is
+/// written.
+pub fn whole(target: &Target<'_>, bytes: &[u8], out: &mut dyn Write, tell: impl FnOnce() -> io::Result<()>) -> Result<(), Failure> {
+    let cannot = |error| Failure::trouble(target.file, format!("cannot be written: {error}"));
+    if target.file != Path::new("-") {
+        return written(target, bytes, tell).map_err(cannot);
     }
-    written(target, bytes).map_err(|error| Failure::trouble(file, format!("cannot be written: {error}")))
+    standard::output_is_there().map_err(Failure::standard_output)?;
+    tell().map_err(cannot)?;
+    // Also a reader that goes is a failure here: what it has is not whole.
+    out.write_all(bytes).and_then(|()| out.flush()).map_err(Failure::standard_output)
 }
 
-/// Writes a file beside the one wanted, and gives it that name when it is safe on the disk. On a failure nothing is left behind.
-fn written(target: &Target<'_>, bytes: &[u8]) -> io::Result<()> {
+/// Writes a file beside the one wanted, and gives it that name when it is safe on the disk and all is told. On a failure nothing is left behind.
+fn written(target: &Target<'_>, bytes: &[u8], tell: impl FnOnce() -> io::Result<()>) -> io::Result<()> {
     let (file, found) = behind_links(target.file)?;
+    // Asked before anything is told. A file that comes later is seen when the name is given.
+    if found.is_some() && !target.force {
+        return Err(refused(TAKEN));
+    }
     let folder = match file.parent() {
         Some(parent) if parent != Path::new("") => parent,
         _ => Path::new("."),
     };
     let (temporary, beside) = create(folder)?;
-    let named = fill(beside, bytes, found).and_then(|()| name(&temporary, &file, target.force));
+    let named = fill(beside, bytes, found).and_then(|()| tell()).and_then(|()| name(&temporary, &file, target.force));
     if named.is_err() {
         // An error here would hide the one that is told.
         let _ = fs::remove_file(&temporary);
@@ -80,6 +87,9 @@ fn refused(what: impl Into<String>) -> io::Error {
     io::Error::new(io::ErrorKind::InvalidInput, what.into())
 }
 
+/// Why a file that is there is not replaced.
+const TAKEN: &str = "it is there already; --force replaces it";
+
 /// Gives the file its name. Without `force` it must be free: a rename would put away what has it, a link does not. Some file systems have no links.
 fn name(temporary: &Path, file: &Path, force: bool) -> io::Result<()> {
     if force {
@@ -87,7 +97,7 @@ fn name(temporary: &Path, file: &Path, force: bool) -> io::Result<()> {
     }
     match fs::hard_link(temporary, file) {
         Ok(()) => fs::remove_file(temporary),
-        Err(_) if fs::symlink_metadata(file).is_ok() => Err(refused("it is there already; --force replaces it")),
+        Err(_) if fs::symlink_metadata(file).is_ok() => Err(refused(TAKEN)),
         Err(_) => fs::rename(temporary, file),
     }
 }

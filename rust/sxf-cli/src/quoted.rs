@@ -37,12 +37,17 @@ pub fn acts(character: char) -> bool {
 }
 
 /// A character, or its escape where it acts on the line.
-pub fn visible(character: char) -> String {
+fn visible(character: char) -> String {
     if acts(character) {
         character.escape_default().to_string()
     } else {
         character.to_string()
     }
+}
+
+/// A line with what acts on it as escapes.
+pub fn visible_line(line: &str) -> String {
+    line.chars().map(visible).collect()
 }
 
 fn stray(what: Stray) -> String {

@@ -1,10 +1,10 @@
 //! `sxf show`: a sheet for people.
 use crate::failure::Failure;
-use crate::input;
 use crate::quoted::quoted;
+use crate::{input, tails};
 use std::io::Write;
 use std::path::Path;
-use sxf::{Corners, Head, Item, Number, Part, Point, Record, Setting, Sheet, Text, Value};
+use sxf::{Corners, Head, Item, Number, Part, Point, Record, Setting, Sheet, Tail, Tails, Value};
 
 pub fn run(file: &Path, number: Option<usize>, setting: Setting, out: &mut dyn Write) -> Result<(), Failure> {
     let bytes = input::bytes(file)?;
@@ -18,7 +18,9 @@ pub fn run(file: &Path, number: Option<usize>, setting: Setting, out: &mut dyn W
         }
         None => {
             writeln!(out, "sheet of {} bytes, sum {}, accepted at {setting}", bytes.len(), sheet.sum())?;
-            head(&sheet, &sheet.head().map_err(refused)?, out)?;
+            let asked = sheet.head().map_err(refused)?;
+            texts(&asked, &sheet.tails().map_err(refused)?, out)?;
+            head(&sheet, &asked, out)?;
             corners(&sheet.corners().map_err(refused)?, out)?;
             writeln!(out, "records            {}", sheet.record_count())?;
             sheet.records().try_for_each(|each| record(&each, None, out))
@@ -32,12 +34,23 @@ fn units(sheet: &Sheet<'_>, record: &Record<'_>) -> String {
     format!("unit {}{}", sheet.unit(), if record.reference().three_dimensions() { &heights } else { "" })
 }
 
+/// The head's texts, and under each the old letters that stand after its first zero, where there are any.
+fn texts(head: &Head<'_>, tails: &Tails<'_>, out: &mut dyn Write) -> Result<(), Failure> {
+    let mut field = |name, text, tail: Tail<'_>| {
+        writeln!(out, "{name:<18} {}", tails::text(text))?;
+        match tail.is_clean() {
+            true => Ok(()),
+            false => writeln!(out, "  old letters      {}", tails::text(tail.letters())),
+        }
+    };
+    field("date", head.date, tails.date)?;
+    field("designation", head.designation, tails.designation)?;
+    field("designation (data)", head.designation2, tails.designation2)?;
+    field("title", head.title, tails.title)?;
+    Ok(())
+}
+
 fn head(sheet: &Sheet<'_>, head: &Head<'_>, out: &mut dyn Write) -> Result<(), Failure> {
-    let text = |bytes| quoted(&Text { coding: Head::CODING, bytes });
-    writeln!(out, "date               {}", text(head.date))?;
-    writeln!(out, "designation        {}", text(head.designation))?;
-    writeln!(out, "designation (data) {}", text(head.designation2))?;
-    writeln!(out, "title              {}", text(head.title))?;
     writeln!(out, "scale              1:{}", head.scale)?;
     writeln!(out, "unit               {}", sheet.unit())?;
     writeln!(out, "unit of heights    {}", sheet.height_unit())?;

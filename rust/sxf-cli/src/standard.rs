@@ -1,4 +1,4 @@
-//! Standard input and output, and whether they are there.
+//! Standard input, output and error, and whether they are there.
 #![allow(unsafe_code)]
 use std::ffi::c_int;
 use std::fs::{File, Metadata};
@@ -6,8 +6,8 @@ use std::io::{self, Read, Write};
 use std::os::fd::AsFd;
 use std::sync::atomic::{AtomicBool, Ordering};
 
-/// Whether standard input and standard output, descriptors 0 and 1, were closed when the program began.
-static CLOSED: [AtomicBool; 2] = [AtomicBool::new(false), AtomicBool::new(false)];
+/// Whether standard input, output and error, descriptors 0 to 2, were closed when the program began.
+static CLOSED: [AtomicBool; 3] = [const { AtomicBool::new(false) }; 3];
 
 /// Rust's runtime opens /dev/null in the place of one that is closed, before `main` is called: all that is printed would be lost, and nobody
 /// told. So this is asked earlier: what stands in this section is called before Rust's runtime begins.
@@ -44,6 +44,11 @@ pub fn input() -> io::Result<impl Read> {
 pub fn input_metadata() -> io::Result<Metadata> {
     let file = open(0).and_then(|()| io::stdin().as_fd().try_clone_to_owned()).map(File::from)?;
     file.metadata()
+}
+
+/// Standard error, if it is there. It is written as a file is, since `io::Stderr` takes one that is not open for writing for one that nobody wants.
+pub fn error() -> io::Result<File> {
+    open(2).and_then(|()| io::stderr().as_fd().try_clone_to_owned()).map(File::from)
 }
 
 /// An error where nothing can be written to standard output. Who writes no byte learns it only by this.

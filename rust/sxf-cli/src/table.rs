@@ -10,14 +10,15 @@ use serde::Serialize;
 use std::borrow::Cow;
 use std::io::{self, Write};
 use std::path::Path;
-use sxf::{Head, Item, Part, Record, Reference, Setting, Text};
+use sxf::{Head, Item, Part, Record, Reference, Setting, Tail, Tails, Text};
 
 /// Each text as characters where it can be, or as bytes alone.
 pub fn run(file: &Path, as_bytes: bool, setting: Setting, out: &mut dyn Write) -> Result<(), Failure> {
     let bytes = input::bytes(file)?;
     let sheet = input::sheet(file, &bytes, setting)?;
-    let head = sheet.head().map_err(|refusal| Failure::refused(file, refusal))?;
-    line(&head_line(&head, as_bytes, sheet.record_count()), out)?;
+    let refused = |refusal| Failure::refused(file, refusal);
+    let (head, tails) = (sheet.head().map_err(refused)?, sheet.tails().map_err(refused)?);
+    line(&head_line(&head, &tails, as_bytes, sheet.record_count()), out)?;
     sheet.records().try_for_each(|record| line(&record_line(&record, as_bytes), out))
 }
 
@@ -27,8 +28,9 @@ fn line(line: &impl Serialize, out: &mut dyn Write) -> Result<(), Failure> {
     Ok(())
 }
 
-fn head_line<'a>(head: &Head<'a>, as_bytes: bool, records: usize) -> HeadLine<'a> {
+fn head_line<'a>(head: &Head<'a>, tails: &Tails<'a>, as_bytes: bool, records: usize) -> HeadLine<'a> {
     let fields = |bytes| text::fields(&Text { coding: Head::CODING, bytes }, as_bytes);
+    let dirty = |tail: Tail<'a>| (!tail.is_clean()).then_some(Hex::of(tail.bytes));
     let (date, date_bytes) = fields(head.date);
     let (designation, designation_bytes) = fields(head.designation);
     let (title, title_bytes) = fields(head.title);
@@ -38,14 +40,18 @@ fn head_line<'a>(head: &Head<'a>, as_bytes: bool, records: usize) -> HeadLine<'a
         format: FORMAT,
         date,
         date_bytes,
+        date_tail: dirty(tails.date),
         designation,
         designation_bytes,
+        designation_tail: dirty(tails.designation),
         scale: head.scale,
         title,
         title_bytes,
+        title_tail: dirty(tails.title),
         rest: Hex::of(head.rest),
         designation2,
         designation2_bytes,
+        designation2_tail: dirty(tails.designation2),
         carried: Hex::of(head.carried),
         records: Some(records as u64),
     }

@@ -1,5 +1,5 @@
 //! `sxf write`: a sheet from JSON lines.
-use crate::failure::Failure;
+use crate::failure::{say, Failure};
 use crate::head::OwnHead;
 use crate::input;
 use crate::json::{HeadLine, RecordLine, FORMAT};
@@ -17,10 +17,10 @@ use sxf::{Coding, Head, Refusal, Setting};
 pub fn run(json: &Path, target: &Target<'_>, setting: Setting, out: &mut dyn Write) -> Result<(), Failure> {
     let mut lines = Lines::new(input::open(json)?);
     let (head, records) = taken(&mut lines).map_err(|what| Failure::trouble(json, what))?;
-    let head = head.lend();
+    let lent = head.lend();
     let sheet =
-        sxf::write(&head, records.table.lend(), setting).map_err(|refusal| told(json, &head, &records, setting, refusal))?;
-    output::whole(target, &sheet, out)
+        sxf::write(&lent, records.table.lend(), setting).map_err(|refusal| told(json, &lent, &records, setting, refusal))?;
+    output::whole(target, &sheet, out, || head.cleared.iter().try_for_each(|what| say(json, what)))
 }
 
 /// The refusal with the line of the JSON that it is about.

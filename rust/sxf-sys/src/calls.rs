@@ -42,7 +42,8 @@ pub struct Record {
     pub points: u64,
 }
 
-/// `sxf_head`: the lengths of the four texts, and the scale's denominator.
+/// `sxf_head`: the lengths of the four texts, the scale's denominator, and for each text field 1 where its tail, which is what stands after its
+/// first zero, has only zeros, else 0.
 #[repr(C)]
 #[derive(Clone, Copy, Debug, Default, PartialEq, Eq)]
 pub struct Head {
@@ -54,6 +55,10 @@ pub struct Head {
     pub title: u64,
     pub designation2: u64,
     pub scale: u64,
+    pub date_clean: u64,
+    pub designation_clean: u64,
+    pub title_clean: u64,
+    pub designation2_clean: u64,
 }
 
 /// `sxf_unit`: one of [`units`](crate::units), and the byte at 236 where it names none.
@@ -253,7 +258,10 @@ mod tests {
     fn answers_are_laid_out_as_c_holds_them() {
         laid_out!(Checked: number place year sum records numbers elements bytes);
         laid_out!(Record: number place year at total code in_group group reference generalisation word parts items mark points);
-        laid_out!(Head: number place year date designation title designation2 scale);
+        laid_out!(
+            Head: number place year date designation title designation2 scale
+                date_clean designation_clean title_clean designation2_clean
+        );
         laid_out!(Unit: number place year unit byte);
         laid_out!(Coordinate: number place year unit byte width kind bits);
         laid_out!(Corners: number place year nan_at sw_x sw_y nw_x nw_y ne_x ne_y se_x se_y);

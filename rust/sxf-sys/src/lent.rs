@@ -11,7 +11,8 @@ pub fn version() -> u32 {
     unsafe { sxf_version() }
 }
 
-/// Sees to it that the archive has the record table and the structs that this crate declares: with others each record would be misread.
+/// Sees to it that the archive has the record table and the structs that this crate declares: with others each record would be misread, or a longer
+/// answer written past the room for it.
 fn of_this_version() {
     assert_eq!(version(), VERSION, "libsxf.a is of another version than sxf-sys: run `rt staticlib sxf` again");
 }
@@ -66,8 +67,9 @@ pub fn record_at(sheet: &[u8], year: u32, record: u64) -> Record {
     unsafe { sxf_record_at(sheet.as_ptr(), sheet.len(), year, record) }
 }
 
-/// The lengths of the head's texts, and the scale.
+/// The lengths of the head's texts, the scale, and which tails of text fields are clean.
 pub fn head_of(sheet: &[u8], year: u32) -> Head {
+    of_this_version();
     // SAFETY: as `check`.
     unsafe { sxf_head_of(sheet.as_ptr(), sheet.len(), year) }
 }
@@ -211,7 +213,7 @@ mod tests {
     use crate::codings::{DOS, KOI8, WINDOWS};
     use crate::dimensions::{HEIGHT, NORTH};
     use crate::fields::passport::{in_rest, FLAGS, HEIGHT_UNIT, REST};
-    use crate::refusals::{ASK, NO_CHARACTER, OK, ROOM, SEMANTIC, SHORT, TABLE};
+    use crate::refusals::{ASK, NO_CHARACTER, OK, ROOM, SEMANTIC, SHORT, TABLE, TEXT};
     use crate::{kinds, row, units};
 
     #[test]
@@ -290,6 +292,8 @@ mod tests {
     }
 
     const Q: &[u8] = include_bytes!("../../../samples/Q.sxf");
+    const DIRTY_TAIL: &[u8] = include_bytes!("../../../samples/dirty-tail.sxf");
+    const NO_ZERO: &[u8] = include_bytes!("../../../samples/no-zero.sxf");
 
     #[test]
     fn a_hop_tells_the_first_record_of_a_code() {
@@ -297,6 +301,22 @@ mod tests {
         assert_eq!((first_with(Q, 0), frame_of(Q)), (record, record));
         assert_eq!(first_with(Q, 7), Hop { looked: 1, ..Hop::default() });
         assert_eq!(frame_of(&Q[..493]), Hop { number: SHORT, place: 456, ..Hop::default() });
+    }
+
+    #[test]
+    fn a_head_tells_which_tails_are_clean() {
+        let clean = Head {
+            designation: 1,
+            designation2: 1,
+            date_clean: 1,
+            designation_clean: 1,
+            title_clean: 1,
+            designation2_clean: 1,
+            ..Head::default()
+        };
+        assert_eq!(head_of(Q, 2017), clean);
+        assert_eq!(head_of(DIRTY_TAIL, 2017), Head { designation_clean: 0, ..clean });
+        assert_eq!(head_of(NO_ZERO, 2017), Head { number: TEXT, place: 64, ..Head::default() });
     }
 
     /// How many numbers, elements and bytes Q's table has.

@@ -1,4 +1,4 @@
-//! The refusals by the documents' numbers and names (01, The refusals; 02, requests 1 and 3), as the answers have them; [`OK`] is an answer that is none.
+//! The refusals by the documents' numbers and names (01, The refusals; 02, requests 1, 3 and 6), as the answers have them; [`OK`] is an answer that is none.
 
 /// No refusal.
 pub const OK: u64 = 0;
@@ -12,7 +12,7 @@ pub const NOT_SXF: u64 = 3;
 pub const EDITION: u64 = 4;
 /// The sum differs.
 pub const SUM: u64 = 5;
-/// A text field is not zero-ended and zero-filled; a closing zero is missing.
+/// In reading a text field has no zero at all; in writing a text is too long for its field or has a zero in it; a closing zero is missing.
 pub const TEXT: u64 = 6;
 /// A value that is not allowed at a flag, code or reserved field.
 pub const RESERVED: u64 = 7;

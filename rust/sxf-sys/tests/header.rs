@@ -55,6 +55,8 @@ fn numbers_are_the_headers() {
         ("SXF_DESIGNATION2_AT", descriptor::DESIGNATION.place as u64),
         ("SXF_CARRIED_AT", descriptor::CARRIED.place as u64),
         ("SXF_RECORDS_AT", START as u64),
+        ("SXF_DATE_SIZE", passport::DATE.width as u64),
+        ("SXF_TEXT_SIZE", passport::TITLE.width as u64),
         ("SXF_REST_SIZE", passport::REST.width as u64),
         ("SXF_CARRIED_SIZE", descriptor::CARRIED.width as u64),
         ("SXF_LIMIT", LIMIT as u64),

@@ -5,8 +5,9 @@ use sxf_sys::fields::{descriptor, passport, Carried, Field, Rest};
 
 /// The head of a sheet: passport and descriptor without what is always the same or is worked out (identifiers, lengths, edition, sum, count).
 ///
-/// It is what a sheet that was read answers and what a sheet to be written takes. The texts are without zeros, in [`Head::CODING`]. The 304
-/// bytes from +96 and the four at 444 are carried as stored.
+/// It is what a sheet that was read answers and what a sheet to be written takes. The texts are without zeros, in [`Head::CODING`]; what stands in
+/// their fields after the first zero is no part of them, and [`Sheet::tails`](crate::Sheet::tails) has it. The 304 bytes from +96 and the four at
+/// 444 are carried as stored.
 ///
 /// ```
 /// use sxf::{Head, Setting, Sheet, Writer};

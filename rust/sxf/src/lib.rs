@@ -20,6 +20,7 @@
 //! |---|---|
 //! | [`sheet`] | a sheet is checked, read and asked: [`check`], [`record_at`], [`Sheet`] |
 //! | [`head`] | what stands before the records: [`Head`] and [`Corners`] |
+//! | [`tails`](mod@tails) | what stands after the first zero of a text field, and whether it is clean: [`tails()`], [`Tails`], [`Tail`] |
 //! | [`record`], [`part`], [`item`] | what a record holds |
 //! | [`text`] | texts with their codings, turned into strings and back: [`Text`], [`Coding`] |
 //! | [`reference`](mod@reference) | the three reference bytes of a record |
@@ -35,13 +36,13 @@
 //! # What is proved, and what is tried
 //!
 //! Proved are the library's answers: what is accepted and refused, with number, place and year; sum, count and sizes; the record table; a
-//! record asked for by number; the lengths of the head's texts; unit, corners, visibility; what an element's bits stand for, and in which unit;
-//! the numbers of items; which character a byte of DOS, Windows or KOI-8 is; the bytes of a code index, its entries, and what is selected by
-//! class code; the first record with a class code, and the frame, from header to header; the bytes written. This crate hands them on. Its own, which
-//! tests hold and no proof, are the walk over the table that was unfolded, a record's place in that walk, the bits of a number that is to be
-//! written, which record that is to be written needs the mark, the fields that [`Head`] reads out of its rest and its carried bytes, which coding a
-//! text is in, texts in UTF-16, whether a pick is a record of the sheet at hand, which code [`frame`] says that it looked for, the room for writing,
-//! and the names of features.
+//! record asked for by number; the lengths of the head's texts, and whether their tails are clean; unit, corners, visibility; what an element's bits
+//! stand for, and in which unit; the numbers of items; which character a byte of DOS, Windows or KOI-8 is; the bytes of a code index, its entries,
+//! and what is selected by class code; the first record with a class code, and the frame, from header to header; the bytes written. This crate hands
+//! them on. Its own, which tests hold and no proof, are the walk over the table that was unfolded, a record's place in that walk, the bits of a number
+//! that is to be written, which record that is to be written needs the mark, the fields that [`Head`] reads out of its rest and its carried bytes,
+//! which bytes a tail has, which coding a text is in, texts in UTF-16, whether a pick is a record of the sheet at hand, which code [`frame`] says
+//! that it looked for, the room for writing, and the names of features.
 //!
 //! Nothing here panics on what a sheet, a table or an index holds. That an accepted sheet's table is well formed is the library's promise; what
 //! goes against it would end an iteration early, and for good.
@@ -62,6 +63,7 @@ pub mod refusal;
 pub mod setting;
 pub mod sheet;
 pub mod table;
+pub mod tails;
 pub mod text;
 pub mod visibility;
 pub mod writer;
@@ -82,6 +84,7 @@ pub use setting::Setting;
 pub use sheet::{check, record_at, Sheet, Sizes};
 pub use sxf_sys::{fields, row, LIMIT};
 pub use table::{Row, Table, TableRef};
+pub use tails::{tails, Tail, Tails};
 pub use text::{Coding, NoCharacter, Stray, Text};
 pub use visibility::Visibility;
 pub use writer::{write, Misfit, NewPart, NewRecord, Writer};

@@ -56,7 +56,7 @@ named! {
     NOT_SXF "NOT SXF" "an identifier differs, so this is no SXF sheet or it is damaged here"
     EDITION "EDITION" "a fixed length or the edition is not that of SXF 4.0"
     SUM "SUM" "the sum of the sheet's bytes is not the one stored, so the sheet was changed or cut short"
-    TEXT "TEXT" "a text is not zero-ended and zero-filled, does not fit its field, or lacks its closing zero"
+    TEXT "TEXT" "a text field has no zero, a text is too long for its field or has a zero in it, or a closing zero is missing"
     RESERVED "RESERVED" "a flag, code or reserved field has a value that is not allowed"
     TOO_NEW "TOO NEW" "a feature here is later than the setting"
     NOT_CARRIED "NOT CARRIED" "a record has a binding vector or graphics, which are not carried"

@@ -6,6 +6,8 @@ use crate::pick::{select_sized, OtherSheet, Pick, Picks};
 use crate::record::{Common, Record, RecordAt, Records};
 use crate::refusal::low32;
 use crate::table::{Table, TableRef};
+use crate::tails::{tails, Tails};
+use crate::writer::write;
 use crate::{Coding, Refusal, Setting};
 use sxf_sys::fields::passport;
 use sxf_sys::{lent, Field, Rest};
@@ -164,6 +166,28 @@ impl<'a> Sheet<'a> {
         let answer = lent::head_of(self.bytes, self.setting.year());
         Refusal::answered(answer.number, answer.place, answer.year)?;
         Head::of(self.bytes, &answer).ok_or(Refusal { number: Refusal::SHORT, place: 0, year: 0 })
+    }
+
+    /// What stands after the first zero of each of its text fields, and whether that is clean. The library checks the sheet again for it.
+    pub fn tails(&self) -> Result<Tails<'a>, Refusal> {
+        tails(self.bytes, self.setting)
+    }
+
+    /// Its bytes with the tails of its text fields cleared and the sum to match: what was read of it, written for its setting. Where all four tails
+    /// [are clean](Tails::is_clean) these are its bytes. A sheet that was read is not refused here.
+    ///
+    /// ```
+    /// use sxf::{Setting, Sheet};
+    /// # let bytes = include_bytes!("../../../samples/dirty-tail.sxf");
+    /// let sheet = Sheet::read(bytes, Setting::Y2017)?;
+    /// let cleared = sheet.cleared()?;
+    /// // One old letter, and the sum that it was counted in.
+    /// assert_eq!((bytes[40], cleared[40], sheet.sum() - sxf::check(&cleared, Setting::Y2017)?.sum), (b'B', 0, b'B'.into()));
+    /// assert_eq!(Sheet::read(&cleared, Setting::Y2017)?.cleared()?, cleared);
+    /// # Ok::<(), sxf::Refusal>(())
+    /// ```
+    pub fn cleared(&self) -> Result<Vec<u8>, Refusal> {
+        write(&self.head()?, self.table(), self.setting)
     }
 
     /// Its eight plane corners. The library checks the sheet again for it.

@@ -13,6 +13,9 @@ use sxf_sys::row::{self, PART_WIDTH};
 
 /// Writes a sheet. The room is worked out from the table, and is exact.
 ///
+/// Head and table of a sheet that was read, written for the same setting, give its bytes with the tails of its text fields
+/// [cleared](Sheet::cleared) and the sum to match; where all four [are clean](Sheet::tails), its bytes.
+///
 /// A refusal's place is a byte of the sheet where it is the head's, and an index of the table's numbers where it is the table's; the head is
 /// checked first, so [`check_head`] tells which.
 ///

@@ -173,7 +173,7 @@ fn what_a_check_refuses_may_be_found() {
     let dated = sample("dated");
     assert!(check(&dated, Setting::Y1999).is_err());
     assert_eq!(numbers(frame(&dated)), first(40));
-    for name in ["sum-wrong", "dirty-tail"] {
+    for name in ["sum-wrong", "no-zero"] {
         assert_eq!(numbers(frame(&sample(name))), Ok((None, 0)), "{name}");
     }
     assert_eq!(frame(&sample("too-short")), refused(Refusal::SHORT, 0));

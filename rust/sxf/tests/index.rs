@@ -96,7 +96,7 @@ fn all_records_may_have_one_code() {
 /// "Refusals: the sheet's own" (02, request 3), at the setting asked for.
 #[test]
 fn a_sheet_that_is_refused_has_no_index_and_no_selection() {
-    for name in ["sum-wrong", "too-short", "not-sxf", "dirty-tail", "closing", "graphics", "left-over", "n1-not-zero", "dated"] {
+    for name in ["sum-wrong", "too-short", "not-sxf", "no-zero", "closing", "graphics", "left-over", "n1-not-zero", "dated"] {
         let bytes = sample(name);
         for setting in Setting::ALL {
             let refusal = sxf::check(&bytes, setting).err();

@@ -11,7 +11,7 @@ use crate::numbers::Numbers;
 use crate::phases::not_before;
 use crate::places::places;
 use crate::sheet_damage;
-use crate::sheets::{self, setting, written, Made};
+use crate::sheets::{self, edited, setting, Made};
 use crate::tables::{rows, table, Sizes};
 use sxf_sys::fields::{header, passport};
 use sxf_sys::index::{BLOCK_FULL, BLOCK_SIZE};
@@ -58,7 +58,7 @@ pub fn sheet_of(numbers: &mut Numbers, year: u32, records: usize, codes: &[u32])
     if !indices.is_empty() {
         table.numbers[numbers.pick(&indices) + row::CODE] = u64::from(once);
     }
-    written(year, head, table)
+    edited(numbers, year, head, table)
 }
 
 /// A sheet of each size for each setting: its index at all settings, and at

@@ -12,8 +12,9 @@ use crate::archive;
 use crate::features;
 use crate::memory::Memory;
 use crate::numbers::Numbers;
+use crate::tails;
 use crate::tally::{Call, Reason, Tally};
-use second::{Head, Refusal, Table};
+use second::{Head, Refusal, Table, Tails};
 use std::fmt::Debug;
 
 /// One case's comparisons, and the memory that is lent for them.
@@ -122,6 +123,14 @@ impl Judge {
         for (feature, met) in self.met.features.iter_mut().enumerate() {
             *met |= (has >> feature & 1) as u64;
         }
+    }
+
+    /// What stands in the tails of an accepted sheet, and which are dirty.
+    fn meet_tails(&mut self, tails: &Tails) {
+        for (met, tail) in self.met.tails.iter_mut().zip(tails.by_place()) {
+            met[tails::kind(tail) as usize] = 1;
+        }
+        self.met.dirty[tails::dirty(tails.clean())] = 1;
     }
 
     fn meet_reason(&mut self, reason: Reason) {

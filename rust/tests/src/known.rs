@@ -1,8 +1,9 @@
 //! Document 01's own sheets, with the answers it gives for them, and document
-//! 02's lake, elements, items, texts, code indexes and hops whose answers are
-//! worked out by hand. Both the archive and `second` must give these.
+//! 02's lake, elements, items, texts, code indexes, hops and tails whose answers
+//! are worked out by hand. Both the archive and `second` must give these.
 
 mod hops;
+mod tails;
 
 use crate::archive;
 use crate::judge::{Care, Judge};
@@ -17,8 +18,12 @@ use sxf_sys::reference::{ELEMENT_SIZE, FLOATING, SEMANTICS, THREE_DIMENSIONS};
 use sxf_sys::refusals::{ASK, BAD_BLOCK, COUNT, NO_CHARACTER, OK, ROOM, SEMANTIC, SHORT, SUM, TABLE, TEXT, TOO_NEW};
 use sxf_sys::{kinds, row, units, years};
 
+/// The first of the hops, and of the tails.
+const FIRST_HOP: u64 = 19;
+const FIRST_TAIL: u64 = FIRST_HOP + hops::CASES;
+
 /// How many there are.
-pub const CASES: u64 = 24;
+pub const CASES: u64 = FIRST_TAIL + tails::CASES;
 
 /// Where the metric of the first record starts.
 pub const METRIC: usize = START + header::SIZE;
@@ -117,11 +122,8 @@ pub fn run(judge: &mut Judge, case: u64) {
         16 => lake_read(judge),
         17 => lake_written(judge),
         18 => index_of_p(judge),
-        19 => hops::hits(judge),
-        20 => hops::refusals_of_head(judge),
-        21 => hops::refusals_of_headers(judge),
-        22 => hops::cuts(judge),
-        _ => hops::not_looked_at(judge),
+        FIRST_HOP..FIRST_TAIL => hops::run(judge, case - FIRST_HOP),
+        _ => tails::run(judge, case - FIRST_TAIL),
     }
 }
 

@@ -5,7 +5,7 @@ use crate::judge::{Care, Judge};
 use crate::numbers::Numbers;
 use crate::phases::{damaged_sheet, damaged_table, not_before};
 use crate::places::{places, Bounds};
-use crate::sheets::{put_sum_right, written, Made};
+use crate::sheets::{edited, put_sum_right, Made};
 use crate::tables;
 use second::Table;
 use sxf_sys::fields::header;
@@ -30,7 +30,8 @@ pub fn run(judge: &mut Judge, numbers: &mut Numbers) {
     large(&mut table, numbers, year, which);
     tables::record(&mut table, numbers, SEMANTICS, 0, &[1]);
     tables::item(&mut table, numbers, year);
-    let made = written(year, head(numbers, year), table);
+    let head = head(numbers, year);
+    let made = edited(numbers, year, head, table);
     let year = not_before(numbers, year);
     match numbers.below(5) {
         0 => judge.reads(&made.sheet, &[(year, Care::Whole), (1999, Care::Check)], numbers),

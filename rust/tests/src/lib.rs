@@ -31,5 +31,6 @@ pub mod sheets;
 pub mod stored;
 pub mod table_damage;
 pub mod tables;
+pub mod tails;
 pub mod tally;
 pub mod texts;

@@ -8,7 +8,7 @@ use crate::judge::{Care, Judge};
 use crate::large::SHORE;
 use crate::numbers::Numbers;
 use crate::phases::not_before;
-use crate::sheets::put_sum_right;
+use crate::sheets::{edited, put_sum_right, Made};
 use crate::stored::put;
 use crate::tables;
 use second::{Head, Table};
@@ -101,10 +101,7 @@ fn at_limit(judge: &mut Judge, numbers: &mut Numbers, shape: Shape, over: usize)
     let (year, head, table) = filled(numbers, shape, LIMIT + over);
     judge.writes(&head, &table, &[year], numbers);
     let (year, head, table) = filled(numbers, shape, LIMIT);
-    let mut sheet = match second::write(year, &head, &table, LIMIT) {
-        Ok(sheet) => sheet,
-        Err(refusal) => panic!("a table for the limit is refused: {refusal:?}"),
-    };
+    let Made { table, mut sheet, .. } = edited(numbers, year, head, table);
     sheet.resize(LIMIT + over, 0);
     judge.reads(&sheet, &[(year, Care::Once)], numbers);
     if over == 0 {

@@ -10,6 +10,7 @@
 use held_against_second::features;
 use held_against_second::judge::Judge;
 use held_against_second::phases::{Phase, PHASES};
+use held_against_second::tails;
 use held_against_second::tally::{Tally, BY_CODE, BY_INDEX, CALLS, ENDS, FROM_SHEET, NUMBERS, TO_FRAME};
 use std::panic::{catch_unwind, AssertUnwindSafe};
 use std::process::ExitCode;
@@ -183,6 +184,10 @@ fn print_reasons(tally: &Tally) {
     for (feature, met) in tally.features.iter().enumerate() {
         println!("{:29}{met:>8}", features::name(feature));
     }
+    for (field, met) in tails::FIELDS.into_iter().zip(tally.tails) {
+        println!("tails at {}, {:?}: {met:?}", field.place, tails::KINDS);
+    }
+    println!("dirty fields, a bit each, the date's lowest: {:?}", tally.dirty);
     println!("units 1 to 5: {:?}", &tally.units[1..]);
     println!("no NaN, or the first at each corner: {:?}", tally.nans);
     for (dimension, name) in ["X", "Y", "heights"].into_iter().enumerate() {

@@ -203,7 +203,7 @@ impl Phase {
             Phase::EachBit => each::bits(judge, &made, year, numbers),
             Phase::EachCut => each::cuts(judge, &made, year, numbers),
             _ => {
-                judge.note("as written".into());
+                judge.note("undamaged".into());
                 reads(judge, &made.sheet, year, numbers);
             }
         }

@@ -394,14 +394,18 @@ fn alter_number(numbers: &mut Numbers, field: &mut [u8]) {
     field.copy_from_slice(&new.to_le_bytes()[..field.len()]);
 }
 
-/// A text field that is full, or has a byte or a zero where none may be.
+/// A text field that has no zero at all, be its text kept or not; or has another
+/// byte at its end or anywhere, or a zero, which may make the end of a text old
+/// letters, or take old letters away.
 fn alter_text(numbers: &mut Numbers, field: &mut [u8]) {
     let last = field.len() - 1;
-    let any = numbers.index(field.len());
-    match numbers.below(4) {
-        0 => field.fill(numbers.between(1, 255) as u8),
-        1 => field[last] = numbers.between(1, 255) as u8,
-        2 => field[any] = 0,
-        _ => field[any] = numbers.between(1, 255) as u8,
+    let (any, how) = (numbers.index(field.len()), numbers.below(5));
+    let mut letter = || numbers.between(1, 255) as u8;
+    match how {
+        0 => field.fill(letter()),
+        1 => field.iter_mut().filter(|byte| **byte == 0).for_each(|zero| *zero = letter()),
+        2 => field[last] = letter(),
+        3 => field[any] = 0,
+        _ => field[any] = letter(),
     }
 }

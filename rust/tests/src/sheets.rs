@@ -1,12 +1,14 @@
-//! Sheets that are accepted at a year, with what they were written from.
+//! Sheets that are accepted at a year, with what they were written from. One of
+//! three is as other editors leave sheets, with old letters in its text fields.
 
 use crate::heads::{head, SETTINGS};
 use crate::numbers::Numbers;
 use crate::tables::{small, table, Sizes};
+use crate::tails;
 use second::{Head, Table};
 use sxf_sys::fields::passport::SUM;
 
-/// A sheet, and what it was written from.
+/// A sheet, and what it was written from, but for old letters.
 pub struct Made {
     /// No feature is later than this setting.
     pub year: u32,
@@ -34,10 +36,20 @@ pub fn small_sheet(numbers: &mut Numbers, year: u32) -> Made {
 pub fn sheet(numbers: &mut Numbers, year: u32, sizes: Sizes) -> Made {
     let head = head(numbers, year);
     let table = table(numbers, year, sizes);
-    written(year, head, table)
+    edited(numbers, year, head, table)
 }
 
-/// The sheet of a head and a table that are known to be right.
+/// The sheet of a head and a table that are known to be right, in one of three
+/// with old letters.
+pub fn edited(numbers: &mut Numbers, year: u32, head: Head, table: Table) -> Made {
+    let mut made = written(year, head, table);
+    if numbers.chance(1, 3) {
+        tails::leave(numbers, &mut made.sheet);
+    }
+    made
+}
+
+/// The same as it is written, with no old letters.
 pub fn written(year: u32, head: Head, table: Table) -> Made {
     let sheet = match second::write(year, &head, &table, usize::MAX) {
         Ok(sheet) => sheet,

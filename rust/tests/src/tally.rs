@@ -2,6 +2,7 @@
 
 use crate::blocks::{Fault, Stands};
 use crate::features;
+use crate::tails::{self, KINDS as TAIL_KINDS};
 use std::collections::BTreeMap;
 use sxf_sys::fields::{descriptor, header, passport};
 use sxf_sys::index::BLOCK_FULL;
@@ -157,6 +158,10 @@ pub struct Tally {
     pub reasons: BTreeMap<Reason, u64>,
     /// The features of what was accepted.
     pub features: [u64; features::COUNT],
+    /// What stood in the tails of accepted sheets, by text field.
+    pub tails: [[u64; TAIL_KINDS.len()]; tails::COUNT],
+    /// The accepted sheets by which of their text fields were dirty.
+    pub dirty: [u64; 1 << tails::COUNT],
     /// The units that were answered, 1 to 5.
     pub units: [u64; 6],
     /// By the first corner that was a NaN, counted from 1; at 0 there was none.
@@ -234,6 +239,8 @@ impl Default for Tally {
             answers: Default::default(),
             reasons: BTreeMap::new(),
             features: [0; features::COUNT],
+            tails: Default::default(),
+            dirty: Default::default(),
             units: [0; 6],
             nans: [0; 9],
             elements: Default::default(),
@@ -263,6 +270,8 @@ impl Tally {
             add(sums, more);
         }
         add(&mut self.features, &other.features);
+        add(self.tails.as_flattened_mut(), other.tails.as_flattened());
+        add(&mut self.dirty, &other.dirty);
         add(&mut self.units, &other.units);
         add(&mut self.nans, &other.nans);
         add(self.elements.as_flattened_mut(), other.elements.as_flattened());
@@ -313,11 +322,27 @@ impl Tally {
                 missing.push(format!("NaN {corner} was answered in {met} cases"));
             }
         }
+        missing.extend(self.missing_tails(least));
         missing.extend(self.missing_meanings(least));
         missing.extend(seldom(&self.there, &IN_TEXTS, least, "a text there from coding"));
         missing.extend(seldom(&self.back, &IN_TEXTS, least, "a text back to coding"));
         missing.extend(self.missing_indexes(least));
         missing.extend(self.missing_hops(least));
+        missing
+    }
+
+    /// Whatever stood in tails less often than `least` times, and whichever
+    /// fields were dirty together so seldom.
+    fn missing_tails(&self, least: u64) -> Vec<String> {
+        let mut missing = Vec::new();
+        for (field, met) in tails::FIELDS.into_iter().zip(self.tails) {
+            for (kind, met) in TAIL_KINDS.into_iter().zip(met).filter(|&(_, met)| met < least) {
+                missing.push(format!("a tail of the field at {} was {kind:?} in {met} cases", field.place));
+            }
+        }
+        for (dirty, met) in self.dirty.into_iter().enumerate().filter(|&(_, met)| met < least) {
+            missing.push(format!("the text fields {dirty:#06b} were dirty in {met} cases"));
+        }
         missing
     }
 
@@ -414,7 +439,8 @@ const MARKED_FIRST_POINTS: Where = Where::FirstPoints { marked: true };
 const LATER_POINTS: Where = Where::LaterPoints { marked: false };
 const MARKED_LATER_POINTS: Where = Where::LaterPoints { marked: true };
 
-/// The texts, and what is carried: reader and writer refuse the same.
+/// The texts, and what is carried: reader and writer refuse at the same places,
+/// though a text for other reasons.
 const OF_HEADS: [Stated; 6] = [
     (
         TEXT,

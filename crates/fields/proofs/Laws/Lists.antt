@@ -11,7 +11,7 @@ use native.Mathlib.Numerals.{add-one}
 use native.Mathlib.Omega.{arith}
 use Rattle.laws.proofs.Base.Numbers.{number-nil, total-append}
 use Rattle.layout.specs.Bytes.{number, total, zeros}
-use Rattle.layout.specs.Shared.Texts.{textOf, isTextField}
+use Rattle.layout.specs.Shared.Texts.{textOf}
 
 pub number-one : (s : List ℕ) (p : ℕ) → number 1 (drop p s) ≡ getD s p 0
 number-one [] p = rw drop-nil
@@ -75,10 +75,3 @@ rest-is s p = take-all (length s - p) (drop p s) (omega (arith, length-drop p s)
 
 pub part-length : (s : List ℕ) (p n : ℕ) → p + n ≤ length s → length (take n (drop p s)) ≡ n
 part-length s p n h = length-take-le n (drop p s) (omega (arith, length-drop p s))
-
--- a text field, by the length n of its text and what stands after it
-pub field-tail : (s : List ℕ) (n : ℕ) (b : Bool) → n ≡ length (textOf s) → n < length s → b ≡ zeros (drop n s) → b ≡ isTextField s
-field-tail s n b e h z = rw (← e, lt-ltb n (length s) h) z
-
-pub field-full : (s : List ℕ) (n : ℕ) → n ≡ length (textOf s) → length s ≤ n → false ≡ isTextField s
-field-full s n e h = rw (← e, le-ltb n (length s) h)

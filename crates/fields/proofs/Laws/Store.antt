@@ -9,7 +9,8 @@ use native.Mathlib.Nat.{mul-suc, mul-zero, add-zero, add-assoc, zero-add, one-mu
 use native.Mathlib.Omega.{arith}
 use Rattle.fields.proofs.Laws.Put.{sets-append, repeat-cons, repeat-none, Copying, copy-turn, copy-done}
 use Rattle.laws.proofs.Base.Numbers.{length-bytes}
-use Rattle.layout.specs.Bytes.{bytes, storedAll, repeat, total}
+use Rattle.layout.specs.Bytes.{bytes, field, storedAll, repeat, total}
+use Rattle.layout.specs.Shared.Texts.{padded}
 use Rattle.fields.proofs.Laws.Low.{bytes-low}
 
 stored-none : (ws : List ℕ) → storedAll ws [] ≡ []
@@ -104,8 +105,10 @@ module _ (n w : ℕ) (out₀ : List ℕ) where
   pub clear-done : (i : ℕ) (out : List ℕ) → Clearing i out → n ≤ i → out ≡ sets out₀ w (replicate n 0)
   clear-done i out g h = copy-done (replicate n 0) 0 n w out₀ i out g h ∙ ap (sets out₀ w) (take-all n (replicate n 0) (rw length-replicate (omega arith)))
 
--- a text, and then zeros
-pub text-zeros : (out text : List ℕ) (w width : ℕ)
-    → sets (sets out w (take (length text) (drop 0 text))) (w + length text) (replicate (width - length text) 0) ≡ sets out w
-    (text ++ replicate (width - length text) 0)
-text-zeros out text w width = rw (take-all (length text) text (omega arith), sets-append) refl
+-- a text, and then zeros, of which the first ends the text
+pub text-zeros : (out text : List ℕ) (w width : ℕ) → length text < width
+    → sets (sets out w (take (length text) (drop 0 text))) (w + length text) (replicate (width - length text) 0)
+    ≡ sets out w (padded (field w width) text)
+text-zeros out text w width h =
+    let n : width - length text ≡ suc (width - (length text + 1)) = omega (arith, h) in
+    rw (take-all (length text) text (omega arith), n, sets-append) refl

@@ -7,13 +7,13 @@ use native.Mathlib.Omega.{arith}
 use lib.ListN.{length, take, drop, length-append, length-drop, take-append-drop}
 use lib.Seq.{drop-at, drop-drop, take-at, length-take-le}
 use Rattle.layout.specs.Bytes.{Bytes, Field, number, numberIn, bytesIn, stored}
-use Rattle.layout.specs.Shared.Texts.{textOf, isTextField, padded, FineText}
+use Rattle.layout.specs.Shared.Texts.{textOf, tailOf, isTextField, tailed, FineText, FineTail}
 use Rattle.laws.proofs.Base.Lists.{all-take, all-drop}
 use Rattle.laws.proofs.Base.Numbers.{length-bytes, number-bytes, number-lt, bytes-number}
 use Rattle.laws.proofs.Base.Readers.{took-both}
-use Rattle.laws.proofs.Base.Texts.{text-back, text-on, length-padded}
+use Rattle.laws.proofs.Base.Texts.{text-back, text-on, length-tailed}
 
--- a field, and whether it holds a number, raw bytes or a text
+-- a field, and whether it holds a number, raw bytes or a text with its tail
 pub data Column : Type 0 where
   num raw text : Field → Column
 
@@ -28,7 +28,7 @@ wide k = fieldOf k .width
 abbrev pub Val : Column → Type 0
 Val (num f) = ℕ
 Val (raw f) = List ℕ
-Val (text f) = List ℕ
+Val (text f) = List ℕ × List ℕ
 
 abbrev pub Vals : List Column → Type 0
 Vals [] = Unit {0}
@@ -42,7 +42,7 @@ rowSize (k ∷ ks) = wide k + rowSize ks
 abbrev pub getVal : (k : Column) → List ℕ → Val k
 getVal (num f) xs = number (f .width) xs
 getVal (raw f) xs = take (f .width) xs
-getVal (text f) xs = textOf (take (f .width) xs)
+getVal (text f) xs = (textOf (take (f .width) xs), tailOf (take (f .width) xs))
 
 abbrev pub getRow : (ks : List Column) → List ℕ → Vals ks
 getRow [] xs = tt
@@ -52,7 +52,7 @@ getRow (k ∷ ks) xs = (getVal k xs, getRow ks (drop (wide k) xs))
 abbrev pub valIn : (k : Column) → List ℕ → Val k
 valIn (num f) xs = numberIn f xs
 valIn (raw f) xs = bytesIn f xs
-valIn (text f) xs = textOf (bytesIn f xs)
+valIn (text f) xs = (textOf (bytesIn f xs), tailOf (bytesIn f xs))
 
 abbrev pub rowIn : (ks : List Column) → List ℕ → Vals ks
 rowIn [] xs = tt
@@ -62,7 +62,7 @@ rowIn (k ∷ ks) xs = (valIn k xs, rowIn ks xs)
 abbrev pub putVal : (k : Column) → Val k → List ℕ
 putVal (num f) v = stored f v
 putVal (raw f) v = v
-putVal (text f) v = padded f v
+putVal (text f) v = tailed (v .0) (v .1)
 
 abbrev pub putRow : (ks : List Column) → Vals ks → List ℕ
 putRow [] h = []
@@ -72,7 +72,7 @@ putRow (k ∷ ks) h = putVal k (h .0) ++ putRow ks (h .1)
 abbrev pub FitVal : (k : Column) → Val k → Type 0
 FitVal (num f) v = v < 256 ^ f .width
 FitVal (raw f) v = (length v ≡ f .width) × Bytes v
-FitVal (text f) v = FineText f v
+FitVal (text f) v = FineText f (v .0) × FineTail f (v .0) (v .1)
 
 abbrev pub FitRow : (ks : List Column) → Vals ks → Type 0
 FitRow [] h = Unit {0}
@@ -98,15 +98,17 @@ InLine place [] = Unit {0}
 InLine place (k ∷ ks) = (place ≡ fieldOf k .place) × InLine (place + wide k) ks
 
 -- one field
-length-val : (k : Column) (v : Val k) → FitVal k v → length (putVal k v) ≡ wide k
+pub length-val : (k : Column) (v : Val k) → FitVal k v → length (putVal k v) ≡ wide k
 length-val (num f) v h = length-bytes (f .width) v
 length-val (raw f) v h = h .0
-length-val (text f) v h = length-padded f v (h .short)
+length-val (text f) v h = length-tailed f (v .0) (v .1) (h .1)
 
 get-put : (k : Column) (v : Val k) (r : List ℕ) → FitVal k v → getVal k (putVal k v ++ r) ≡ v
 get-put (num f) v r h = number-bytes (f .width) v r h
 get-put (raw f) v r h = take-at v r (f .width) (h .0)
-get-put (text f) v r h = rw (take-at (padded f v) r (f .width) (length-padded f v (h .short))) (text-on f v h .0)
+get-put (text f) v r h =
+    let o = text-on (v .0) (v .1) (h .0 .nonzero) in
+    rw (take-at (tailed (v .0) (v .1)) r (f .width) (length-tailed f (v .0) (v .1) (h .1))) (λ j. (o .0 j, o .1 j))
 
 put-get : (k : Column) (xs : List ℕ) → Bytes xs → wide k ≤ length xs → okVal k xs ≡ true
     → FitVal k (getVal k xs) × (putVal k (getVal k xs) ++ drop (wide k) xs ≡ xs)
@@ -114,12 +116,13 @@ put-get (num f) xs bs h o = (number-lt (f .width) xs bs, bytes-number (f .width)
 put-get (raw f) xs bs h o = ((length-take-le (f .width) xs h, all-take _ (f .width) xs bs), take-append-drop (f .width) xs)
 put-get (text f) xs bs h o =
     let r = text-back f (take (f .width) xs) (all-take _ (f .width) xs bs) (length-take-le (f .width) xs h) o in
-    (r .0, rw (r .1) (take-append-drop (f .width) xs))
+    ((r .0, r .1), rw (r .2) (take-append-drop (f .width) xs))
 
 ok-put : (k : Column) (v : Val k) (r : List ℕ) → FitVal k v → okVal k (putVal k v ++ r) ≡ true
 ok-put (num f) v r h = refl
 ok-put (raw f) v r h = refl
-ok-put (text f) v r h = rw (take-at (padded f v) r (f .width) (length-padded f v (h .short))) (text-on f v h .1)
+ok-put (text f) v r h =
+    rw (take-at (tailed (v .0) (v .1)) r (f .width) (length-tailed f (v .0) (v .1) (h .1))) (text-on (v .0) (v .1) (h .0 .nonzero) .2)
 
 val-in : (k : Column) (xs : List ℕ) → getVal k (drop (fieldOf k .place) xs) ≡ valIn k xs
 val-in (num f) xs = refl

@@ -34,9 +34,8 @@ calls : (unfolded 2017 sheetQ (rooms 14 1 1) ≡ refused ROOM 1 0)
     × (checkedOf (reading 2017 (sheet 796 0 [])) ≡ Checked.Refused (record { number = 5; place = 12; year = 0 }))
     × (asked 2017 (sheet 796 0 []) 7 ≡ refused SUM 12 0)
     × (asked 2017 sheetP 1 ≡ refused ASK 0 0)
-    × (headedOf (reading 2017 sheetQ) ≡ Headed.Head (record { date = 0; designation = 1; scale = 0; title = 0; designation2 = 1 }))
 unfolding computing
-calls = (refl, refl, refl, refl, refl, refl, refl, refl, refl)
+calls = (refl, refl, refl, refl, refl, refl, refl, refl)
 
 -- Q's record as the third, behind two of P's
 found : foundOf (asked 2017 (sealed (sheet 0 3 (point 2 0 36 [] ++ point 2 0 36 [] ++ point 2 2 42 (1 ∷ 0 ∷ 2 ∷ 255 ∷ 249 ∷ 4 ∷ [])))) 2)

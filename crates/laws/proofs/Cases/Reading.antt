@@ -42,16 +42,16 @@ items year semantics = reading year (sealed (sheet 0 1 (point 2 2 (36 + length s
 passport : (E 2017 0 (0x54 ∷ []) ≡ refused NOT-SXF 0 0)
     × (E 2017 4 (0x00 ∷ []) ≡ refused EDITION 4 0)
     × (E 2017 10 (0x03 ∷ []) ≡ refused EDITION 8 0)
-    -- a byte after the text's end; no zero at all
-    × (E 2017 27 (0x41 ∷ []) ≡ refused TEXT 16 0)
+    -- no zero at all
+    × (E 2017 16 (replicate 12 0x31) ≡ refused TEXT 16 0)
     × (E 2017 28 (replicate 32 0x41) ≡ refused TEXT 28 0)
-    × (E 2017 66 (0x41 ∷ []) ≡ refused TEXT 64 0)
+    × (E 2017 64 (replicate 32 0x41) ≡ refused TEXT 64 0)
     × (E 2017 96 (0x07 ∷ []) ≡ refused RESERVED 96 0)
     × (E 2005 98 (0x01 ∷ []) ≡ refused ASK 0 0)
     × (E 2004 98 (0x01 ∷ []) ≡ refused TOO-NEW 98 2006)
     × (E 2016 103 (0x01 ∷ []) ≡ refused TOO-NEW 100 2017)
     -- by rising place: a text at 64 before the offset at 392, and that before the descriptor's identifier
-    × (reading 1999 (sealed (with 66 (0x41 ∷ []) (with 399 (1 ∷ []) sheetE))) ≡ refused TEXT 64 0)
+    × (reading 1999 (sealed (with 64 (replicate 32 0x41) (with 399 (1 ∷ []) sheetE))) ≡ refused TEXT 64 0)
     × (E 1999 399 (0x01 ∷ 0x00 ∷ []) ≡ refused TOO-NEW 392 2004)
     × (E 2004 399 (0x01 ∷ 0x00 ∷ []) ≡ refused NOT-SXF 400 0)
 unfolding computing
@@ -59,7 +59,7 @@ passport = (refl, refl, refl, refl, refl, refl, refl, refl, refl, refl, refl, re
 
 descriptor : (E 2017 400 (0x00 ∷ []) ≡ refused NOT-SXF 400 0)
     × (E 2017 404 (53 ∷ []) ≡ refused EDITION 404 0)
-    × (E 2017 410 (0x41 ∷ []) ≡ refused TEXT 408 0)
+    × (E 2017 408 (replicate 32 0x41) ≡ refused TEXT 408 0)
     × (E 2017 445 (3 ∷ []) ≡ refused RESERVED 445 0)
     × (E 2016 447 (1 ∷ []) ≡ refused TOO-NEW 447 2017)
     × (E 2017 451 (1 ∷ []) ≡ refused RESERVED 448 0)

@@ -17,17 +17,19 @@ use Rattle.layout.specs.Layout.Uses.{recordYears, years}
 use Rattle.layout.specs.Refusals.{LENGTH, COUNT, TOO-NEW}
 use Rattle.layout.specs.Shared.Mark.{n1Of, hasMark, goodFirst}
 use Rattle.layout.specs.Shared.Reference.{referenceChecks, byte20, byte21, byte22}
+use Rattle.layout.specs.Shared.Tails.{cleanSheet}
 use Rattle.layout.specs.Sheet.{Part, Reference, Record, Head, Sheet, Table}
 use Rattle.layout.specs.Walk.{given, refused}
 use Rattle.layout.specs.Writing.Tables.{table, flattenRecord, flatten}
 use Rattle.layout.specs.Years.{isSetting}
 use Rattle.layout.specs.declared.Found.the-variants as Found
-use Rattle.laws.proofs.Again.{written-again}
+use Rattle.laws.proofs.Again.{clean-again}
 use Rattle.laws.proofs.Base.Lists.{_&_}
 use Rattle.laws.proofs.Called.{reading-complete}
 use Rattle.laws.proofs.Cases.Reading.{sealed}
 use Rattle.laws.proofs.Encoding.Lengths.{length-encode}
 use Rattle.laws.proofs.Encoding.Plain.{encode-bytes}
+use Rattle.laws.proofs.Encoding.Tails.{clean-tails, all-clean}
 use Rattle.laws.proofs.Samples.{with, sheet, point, sheetP, headOf}
 use Rattle.laws.proofs.Writing.Records.{NearRecord, near-fine}
 use Rattle.laws.proofs.Writing.Sizes.{record-length}
@@ -143,16 +145,17 @@ lake-years shore isle = refl
 -- So a sheet that holds it is read as what it holds, and is written from its table, at every setting that none of its features is later than.
 pub lake-both-ways : (h : Head) → FineHead h → (shore isle : Part) → shore .points ≡ 10 → isle .points ≡ 70000
     → FinePart area shore → FinePart area isle → (year : ℕ) → isSetting year ≡ true
-    → let t : Sheet = record { head = h; records = lake shore isle ∷ [] } in
+    → let t : Sheet = cleanSheet h (lake shore isle ∷ []) in
     All (λ z. z ≤ year) (years t)
     → (length (encode t) ≡ 280528) × (reading year (encode t) ≡ given t) × (written year h (flatten (t .records)) 280528 ≡ given (encode t))
 lake-both-ways h fh shore isle ten many fs fi year ok old =
-    let t : Sheet = record { head = h; records = lake shore isle ∷ [] } in
+    let t : Sheet = cleanSheet h (lake shore isle ∷ []) in
+    let ft = clean-tails h fh in
     let r = lake-fine shore isle ten many fs fi in
-    let size : length (encode t) ≡ 280528 = omega (arith, length-encode t fh, length-append (encodeRecord (lake shore isle)) [], r .1) in
-    let fine : Fine t = record { short = omega (arith, size); head = fh; count = omega arith; records = (r .0, tt) } in
+    let size : length (encode t) ≡ 280528 = omega (arith, length-encode t fh ft, length-append (encodeRecord (lake shore isle)) [], r .1) in
+    let fine : Fine t = record { short = omega (arith, size); head = fh; tails = ft; count = omega arith; records = (r .0, tt) } in
     let read = reading-complete year (encode t) t (record { setting = ok; fine = fine; old = old; is = refl }) in
-    (size, read, written-again year (encode t) (encode-bytes t fine) t read 280528 (omega (arith, size)))
+    (size, read, clean-again year (encode t) (encode-bytes t fine) t read (all-clean h) 280528 (omega (arith, size)))
 
 -- There are such parts, of any count: all points at 0, 0.
 abbrev still : ℕ → Part

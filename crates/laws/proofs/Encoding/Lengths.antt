@@ -7,9 +7,9 @@ use native.Mathlib.Omega.{arith}
 use Rattle.layout.specs.Bytes.{flat}
 use Rattle.layout.specs.Fields.Header
 use Rattle.layout.specs.Layout.Encode.{encodeMetric, encodeSemantics, encodeHeader, encodeRecord, encodeHead, encodeWith, sheetSum, encode}
-use Rattle.layout.specs.Layout.Fine.{FineHead}
+use Rattle.layout.specs.Layout.Fine.{FineHead, FineTails}
 use Rattle.layout.specs.Reading.Sheets.{start}
-use Rattle.layout.specs.Sheet.{Record, Head, Sheet}
+use Rattle.layout.specs.Sheet.{Record, Head, Tails, Sheet}
 
 -- a header has 32 bytes
 pub length-header : (r : Record) (metric semantics : ℕ) → length (encodeHeader r metric semantics) ≡ Header.size
@@ -28,7 +28,7 @@ length-record r =
 pub length-records : (u : Sheet) → length (flat encodeRecord (u .records)) ≤ length (encode u)
 unfolding encode encodeWith
 length-records u =
-    omega (arith, length-append (encodeHead (u .head) (sheetSum u) (length (u .records))) (flat encodeRecord (u .records)))
+    omega (arith, length-append (encodeHead (u .head) (u .tails) (sheetSum u) (length (u .records))) (flat encodeRecord (u .records)))
 
 -- there are at least 32 for each record
 pub count-records : (l : List Record) → 32 * length l ≤ length (flat encodeRecord l)
@@ -36,18 +36,19 @@ count-records [] = omega arith
 count-records (r ∷ l) = omega (arith, count-records l, length-record r, length-append (encodeRecord r) (flat encodeRecord l))
 
 -- passport and descriptor
-pub head-length : (h : Head) (sum count : ℕ) → FineHead h → length (encodeHead h sum count) ≡ start
+pub head-length : (h : Head) (a : Tails) (sum count : ℕ) → FineHead h → FineTails h a → length (encodeHead h a sum count) ≡ start
 unfolding encodeHead
-head-length h sum count f =
-    let date = f .date .short in
-    let designation = f .designation .short in
-    let title = f .title .short in
-    let designation2 = f .designation2 .short in
+head-length h a sum count f g =
+    let date = g .date .filled in
+    let designation = g .designation .filled in
+    let title = g .title .filled in
+    let designation2 = g .designation2 .filled in
     simp (length-append, length-replicate) (omega (arith, f .rest .0, f .carried .0))
 
 -- a sheet has 452 bytes and its records'
-pub length-encode : (u : Sheet) → FineHead (u .head) → length (encode u) ≡ start + length (flat encodeRecord (u .records))
+pub length-encode : (u : Sheet) → FineHead (u .head) → FineTails (u .head) (u .tails) → length (encode u) ≡ start + length (flat encodeRecord (u .records))
 unfolding encode encodeWith
-length-encode u f =
+length-encode u f g =
     let count = length (u .records) in
-    omega (arith, length-append (encodeHead (u .head) (sheetSum u) count) (flat encodeRecord (u .records)), head-length (u .head) (sheetSum u) count f)
+    let sum = sheetSum u in
+    omega (arith, length-append (encodeHead (u .head) (u .tails) sum count) (flat encodeRecord (u .records)), head-length (u .head) (u .tails) sum count f g)

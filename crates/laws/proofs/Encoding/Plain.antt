@@ -12,13 +12,13 @@ use Rattle.layout.specs.Fields.Passport
 use Rattle.layout.specs.Fields.Subobject
 use Rattle.layout.specs.Layout.Encode.{encodeItem, encodeText, encodePart, encodeSubobject, encodeMetric, encodeSemantics, encodeHeader, encodeRecord}
 use Rattle.layout.specs.Layout.Encode.{encodeHead, encodeWith, sheetSum, encode}
-use Rattle.layout.specs.Layout.Fine.{FineItem, FineLabel, FinePart, FineSubobject, FineRecord, FineHead, Fine}
+use Rattle.layout.specs.Layout.Fine.{FineItem, FineLabel, FinePart, FineSubobject, FineRecord, FineHead, FineTails, Fine}
 use Rattle.layout.specs.Shared.Mark.{pointsOf}
 use Rattle.layout.specs.Shared.Reference.{textInMetric}
-use Rattle.layout.specs.Shared.Texts.{padded, FineText}
+use Rattle.layout.specs.Shared.Texts.{tailed, FineText, FineTail}
 use Rattle.layout.specs.Shared.Types.{kindOf, lengthBytes}
 use Rattle.layout.specs.Shared.Widths.{widths}
-use Rattle.layout.specs.Sheet.{Item, Part, Reference, Record, Head, Sheet, Table}
+use Rattle.layout.specs.Sheet.{Item, Part, Reference, Record, Head, Tails, Sheet, Table}
 use Rattle.layout.specs.Writing.Tables.{joined, flattenHeader, flattenPart, flattenItem, flattenRecord, flatten}
 use Rattle.laws.proofs.Base.Lists.{all-append}
 use Rattle.laws.proofs.Base.Numbers.{bytes-bytes}
@@ -53,8 +53,8 @@ pub zeros-plain : (n : ℕ) → Plain (replicate n 0)
 zeros-plain zero = plain [] tt
 zeros-plain (suc n) = plain _ (omega arith, zeros-plain n .isBytes)
 
-padded-plain : (f : Field) (t : List ℕ) → FineText f t → Plain (padded f t)
-padded-plain f t h = plain t (h .isBytes) ⊹ zeros-plain (f .width - length t)
+tailed-plain : (f : Field) (t a : List ℕ) → FineText f t → FineTail f t a → Plain (tailed t a)
+tailed-plain f t a h g = plain t (h .isBytes) ⊹ plain (0 ∷ a) (omega arith, g .isBytes)
 
 label-plain : (b : Bool) (t : List ℕ) → FineLabel b t → Plain t
 label-plain true t f = plain t (f .1)
@@ -106,36 +106,36 @@ record-plain r f =
     let later = flat-plain (encodeSubobject ref) (FineSubobject ref _) (subobject-plain ref _) (r .subobjects) (f .subobjects) in
     header-plain r _ _ ⊹ (part-plain ref (r .first) (f .first) ⊹ later) ⊹ flat-plain encodeItem FineItem item-plain (r .items) (f .items)
 
-head-plain : (h : Head) (sum count : ℕ) → FineHead h → Plain (encodeHead h sum count)
+head-plain : (h : Head) (a : Tails) (sum count : ℕ) → FineHead h → FineTails h a → Plain (encodeHead h a sum count)
 unfolding encodeHead
-head-plain h sum count f =
+head-plain h a sum count f g =
     stored-plain Passport.identifier Passport.identifier-is
     ⊹ stored-plain Passport.ownLength Passport.ownLength-is
     ⊹ stored-plain Passport.edition Passport.edition-is
     ⊹ stored-plain Passport.sum sum
-    ⊹ padded-plain Passport.date (h .date) (f .date)
-    ⊹ padded-plain Passport.designation (h .designation) (f .designation)
+    ⊹ tailed-plain Passport.date (h .date) (a .date) (f .date) (g .date)
+    ⊹ tailed-plain Passport.designation (h .designation) (a .designation) (f .designation) (g .designation)
     ⊹ stored-plain Passport.scale (h .scale)
-    ⊹ padded-plain Passport.title (h .title) (f .title)
+    ⊹ tailed-plain Passport.title (h .title) (a .title) (f .title) (g .title)
     ⊹ plain (h .rest) (f .rest .1)
     ⊹ stored-plain Descriptor.identifier Descriptor.identifier-is
     ⊹ stored-plain Descriptor.ownLength Descriptor.ownLength-is
-    ⊹ padded-plain Descriptor.designation (h .designation2) (f .designation2)
+    ⊹ tailed-plain Descriptor.designation (h .designation2) (a .designation2) (f .designation2) (g .designation2)
     ⊹ stored-plain Descriptor.count count
     ⊹ plain (h .carried) (f .carried .1)
     ⊹ zeros-plain 4
 
 -- a sheet, with any number in the field of the sum
-pub with-bytes : (u : Sheet) (sum : ℕ) → FineHead (u .head) → All FineRecord (u .records) → Bytes (encodeWith u sum)
+pub with-bytes : (u : Sheet) (sum : ℕ) → FineHead (u .head) → FineTails (u .head) (u .tails) → All FineRecord (u .records) → Bytes (encodeWith u sum)
 unfolding encodeWith
-with-bytes u sum h f =
+with-bytes u sum h g f =
     let p : Plain (encodeWith u sum) =
-    head-plain (u .head) sum (length (u .records)) h ⊹ flat-plain encodeRecord FineRecord record-plain (u .records) f in
+    head-plain (u .head) (u .tails) sum (length (u .records)) h g ⊹ flat-plain encodeRecord FineRecord record-plain (u .records) f in
     p .isBytes
 
 pub encode-bytes : (u : Sheet) → Fine u → Bytes (encode u)
 unfolding encode
-encode-bytes u f = with-bytes u (sheetSum u) (f .head) (f .records)
+encode-bytes u f = with-bytes u (sheetSum u) (f .head) (f .tails) (f .records)
 
 -- The pool
 

@@ -20,5 +20,5 @@ pub sum-fits : (u : Sheet) → Fine u → Fits Passport.sum (sheetSum u)
 unfolding encode sheetSum
 sum-fits u f =
     let s = encodeWith u 0 in
-    let all = total-bytes s (with-bytes u 0 (f .head) (f .records)) in
+    let all = total-bytes s (with-bytes u 0 (f .head) (f .tails) (f .records)) in
     omega (arith, all, length-with u 0 (sheetSum u), f .short)

@@ -9,7 +9,7 @@ use lib.ListN.{length, drop, length-append}
 use lib.Seq.{drop-drop, drop-append-seam}
 use native.Mathlib.Omega.{arith}
 use Rattle.layout.specs.Answers.Calls.{reading}
-use Rattle.layout.specs.Bytes.{All, flat, Bytes, number, numberIn, bytesIn}
+use Rattle.layout.specs.Bytes.{All, flat, Bytes, number, numberIn}
 use Rattle.layout.specs.Fields.Descriptor
 use Rattle.layout.specs.Fields.Header as Field
 use Rattle.layout.specs.Fields.Passport
@@ -17,17 +17,16 @@ use Rattle.layout.specs.Hop.{hit, hopChecks, hopFrom, startChecks, hopWalk, hop
 use Rattle.layout.specs.Layout.Encode.{encodeRecord}
 use Rattle.layout.specs.Layout.Fine.{FineRecord}
 use Rattle.layout.specs.Reading.Records.{Header, headerIn}
-use Rattle.layout.specs.Reading.Sheets.{start, sizeChecks, passportChecks, descriptorChecks, sheetWalk}
-use Rattle.layout.specs.Shared.Carried.{restChecks}
+use Rattle.layout.specs.Reading.Sheets.{start, sizeChecks, passportChecks, descriptorChecks}
 use Rattle.layout.specs.Sheet.{Record, Sheet}
 use Rattle.layout.specs.Walk.{ends, given, answer, always, upTo, holds, yearsOf}
 use Rattle.layout.specs.Years.{isSetting}
-use Rattle.laws.proofs.Base.Lists.{_&_, all-drop}
+use Rattle.laws.proofs.Base.Lists.{_&_}
 use Rattle.laws.proofs.Base.Parts.{field-take}
-use Rattle.laws.proofs.Base.Walks.{cond-back, checks-case, checks-on, allowed-always}
+use Rattle.laws.proofs.Base.Walks.{cond-back, checks-on, allowed-always}
 use Rattle.laws.proofs.Encoding.Lengths.{length-record}
 use Rattle.laws.proofs.Reading.Records.{header-in}
-use Rattle.laws.proofs.Reading.Sheets.{records-fill, sheet-ends}
+use Rattle.laws.proofs.Reading.Sheets.{sheet-went, sheet-ends, records-stand}
 
 hop-records : (wanted seen place : ℕ) (l : List Record) (s : List ℕ) → All FineRecord l → drop place s ≡ flat encodeRecord l
     → answer always (hopFrom wanted (length l) seen place s) ≡ given (firstWith wanted seen place l)
@@ -62,16 +61,13 @@ hop-records wanted seen place (r ∷ l) s f e =
 accepted : (year : ℕ) (s : List ℕ) → Bytes s → (u : Sheet) → reading year s ≡ given u
     → holds (startChecks s) × (length (u .records) ≡ numberIn Descriptor.count s) × All FineRecord (u .records)
     × (flat encodeRecord (u .records) ≡ drop start s)
-unfolding reading sheetWalk startChecks sizeChecks passportChecks descriptorChecks
+unfolding reading startChecks sizeChecks passportChecks descriptorChecks
 accepted year s bs u is =
     let al : ℕ → Bool = upTo year in
     let e = cond-back (isSetting year) _ _ _ _ u is .1 in
-    let f = records-fill al (numberIn Descriptor.count s) .sound start (drop start s) (all-drop _ start s bs) (u .records) (sheet-ends al s u e .1) in
-    checks-case al 0 (sizeChecks s) _ u e λ c1 y1 e1.
-    checks-case al 0 (passportChecks s) _ u e1 λ c2 y2 e2.
-    checks-case al 0 (restChecks (bytesIn Passport.rest s)) _ u e2 λ c3 y3 e3.
-    checks-case al 0 (descriptorChecks s) _ u e3 λ c4 y4 e4.
-    (c1 .0 & c1 .1 .0 & c2 .0 & c4 .0 & tt, f .0 .0, f .0 .1, f .2)
+    let f = records-stand al s bs u e in
+    let w = sheet-went al s u e in
+    (w .size .0 & w .size .1 .0 & w .passport .0 & w .descriptor .0 & tt, f .0, f .1, f .2)
 
 -- On a sheet that is accepted at some setting hopping gives what the full reading gives: record number, place and total length, or none.
 pub hop-reads : (wanted year : ℕ) (s : List ℕ) → Bytes s → (u : Sheet) → reading year s ≡ given u

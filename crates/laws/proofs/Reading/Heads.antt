@@ -8,9 +8,9 @@ use Rattle.layout.specs.Bytes.{stored}
 use Rattle.layout.specs.Fields.Descriptor
 use Rattle.layout.specs.Fields.Passport
 use Rattle.layout.specs.Layout.Encode.{encodeHead}
-use Rattle.layout.specs.Layout.Fine.{FineHead}
-use Rattle.layout.specs.Shared.Texts.{padded}
-use Rattle.layout.specs.Sheet.{Head}
+use Rattle.layout.specs.Layout.Fine.{FineHead, FineTails}
+use Rattle.layout.specs.Shared.Texts.{tailed}
+use Rattle.layout.specs.Sheet.{Head, Tails}
 use Rattle.laws.proofs.Base.Lists.{_&_}
 use Rattle.laws.proofs.Base.Rows.{Column, num, raw, text, Vals, putRow, FitRow, InLine}
 
@@ -25,12 +25,12 @@ columns =
 pub in-line : InLine 0 columns
 in-line = refl & refl & refl & refl & refl & refl & refl & refl & refl & refl & refl & refl & refl & refl & refl & tt
 
--- a head, with a sum and a record count
-abbrev pub rowOf : Head → ℕ → ℕ → Vals columns
-rowOf h sum count =
+-- a head, with the tails of its texts, a sum and a record count
+abbrev pub rowOf : Head → Tails → ℕ → ℕ → Vals columns
+rowOf h a sum count =
     (Passport.identifier-is & Passport.ownLength-is & Passport.edition-is & sum
-    & h .date & h .designation & h .scale & h .title & h .rest
-    & Descriptor.identifier-is & Descriptor.ownLength-is & h .designation2 & count & h .carried & replicate 4 0 & tt)
+    & (h .date, a .date) & (h .designation, a .designation) & h .scale & (h .title, a .title) & h .rest
+    & Descriptor.identifier-is & Descriptor.ownLength-is & (h .designation2, a .designation2) & count & h .carried & replicate 4 0 & tt)
 
 -- the row's values by their names
 pub record Row : Type 0 where
@@ -39,6 +39,7 @@ pub record Row : Type 0 where
   pub edition : ℕ
   pub sum : ℕ
   pub head : Head
+  pub tails : Tails
   pub identifier2 : ℕ
   pub ownLength2 : ℕ
   pub count : ℕ
@@ -49,13 +50,19 @@ named u =
     let p = u .1 .1 .1 .1 in
     let d = p .1 .1 .1 .1 .1 in
     let head : Head = record {
-      date = p .0;
-      designation = p .1 .0;
+      date = p .0 .0;
+      designation = p .1 .0 .0;
       scale = p .1 .1 .0;
-      title = p .1 .1 .1 .0;
+      title = p .1 .1 .1 .0 .0;
       rest = p .1 .1 .1 .1 .0;
-      designation2 = d .1 .1 .0;
+      designation2 = d .1 .1 .0 .0;
       carried = d .1 .1 .1 .1 .0;
+    } in
+    let tails : Tails = record {
+      date = p .0 .1;
+      designation = p .1 .0 .1;
+      title = p .1 .1 .1 .0 .1;
+      designation2 = d .1 .1 .0 .1;
     } in
     record {
       identifier = u .0;
@@ -63,6 +70,7 @@ named u =
       edition = u .1 .1 .0;
       sum = u .1 .1 .1 .0;
       head = head;
+      tails = tails;
       identifier2 = d .0;
       ownLength2 = d .1 .0;
       count = d .1 .1 .1 .0;
@@ -75,17 +83,18 @@ regroup : (a b c d e f g h i j k l m n o : List ℕ)
     ≡ a ++ (b ++ (c ++ (d ++ (e ++ (f ++ (g ++ (h ++ (i ++ (j ++ (k ++ (l ++ (m ++ (n ++ (o ++ []))))))))))))))
 regroup a b c d e f g h i j k l m n o = simp (append-assoc, append-nil)
 
-pub head-is : (h : Head) (sum count : ℕ) → encodeHead h sum count ≡ putRow columns (rowOf h sum count)
+pub head-is : (h : Head) (a : Tails) (sum count : ℕ) → encodeHead h a sum count ≡ putRow columns (rowOf h a sum count)
 unfolding encodeHead
-head-is h sum count =
+head-is h a sum count =
     regroup (stored Passport.identifier Passport.identifier-is) (stored Passport.ownLength Passport.ownLength-is)
     (stored Passport.edition Passport.edition-is) (stored Passport.sum sum)
-    (padded Passport.date (h .date)) (padded Passport.designation (h .designation))
-    (stored Passport.scale (h .scale)) (padded Passport.title (h .title)) (h .rest)
+    (tailed (h .date) (a .date)) (tailed (h .designation) (a .designation))
+    (stored Passport.scale (h .scale)) (tailed (h .title) (a .title)) (h .rest)
     (stored Descriptor.identifier Descriptor.identifier-is) (stored Descriptor.ownLength Descriptor.ownLength-is)
-    (padded Descriptor.designation (h .designation2)) (stored Descriptor.count count) (h .carried) (replicate (Descriptor.reserved .width) 0)
+    (tailed (h .designation2) (a .designation2)) (stored Descriptor.count count) (h .carried) (replicate (Descriptor.reserved .width) 0)
 
-pub head-fits : (h : Head) (sum count : ℕ) → FineHead h → sum < 256 ^ 4 → count < 256 ^ 4 → FitRow columns (rowOf h sum count)
-head-fits h sum count f s c =
-    (omega arith & omega arith & omega arith & s & f .date & f .designation & f .scale & f .title & f .rest
-    & omega arith & omega arith & f .designation2 & c & f .carried & (refl, omega arith) & tt)
+pub head-fits : (h : Head) (a : Tails) (sum count : ℕ) → FineHead h → FineTails h a → sum < 256 ^ 4 → count < 256 ^ 4
+    → FitRow columns (rowOf h a sum count)
+head-fits h a sum count f g s c =
+    (omega arith & omega arith & omega arith & s & (f .date, g .date) & (f .designation, g .designation) & f .scale & (f .title, g .title) & f .rest
+    & omega arith & omega arith & (f .designation2, g .designation2) & c & f .carried & (refl, omega arith) & tt)

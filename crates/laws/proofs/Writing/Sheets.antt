@@ -2,7 +2,7 @@
 use mathlib.Core.Bool.{Bool, true, false, not}
 use mathlib.Core.List.{List, [], _∷_}
 use mathlib.Core.Logic.{_↔_}
-use mathlib.Core.Path.{_≡_, refl, _∙_, subst}
+use mathlib.Core.Path.{_≡_, refl, sym, _∙_, subst}
 use Prim.Native.Nat.{ℕ, _≤_}
 use borrow.Author.Tests.{leb-true, le-leb, ltb-true, lt-ltb, not-true}
 use lib.Dec.{eqb, ltb}
@@ -16,8 +16,9 @@ use Rattle.layout.specs.Layout.Encode.{encode}
 use Rattle.layout.specs.Layout.Fine.{Fits, Fills, FineHead, Fine}
 use Rattle.layout.specs.Layout.Uses.{years}
 use Rattle.layout.specs.Shared.Carried.{restChecks, carriedChecks}
+use Rattle.layout.specs.Shared.Tails.{AllClean, cleanSheet, cleanOf}
 use Rattle.layout.specs.Shared.Texts.{noZero, isText, textFits, FineText}
-use Rattle.layout.specs.Sheet.{Head, Sheet, Table}
+use Rattle.layout.specs.Sheet.{Record, Head, Sheet, Table}
 use Rattle.layout.specs.Walk.{ends, given, answer}
 use Rattle.layout.specs.Writing.Rows.{rowsWalk}
 use Rattle.layout.specs.Writing.Sheets.{titleRules, headWalk, limitRules, tableWalk}
@@ -27,6 +28,7 @@ use Rattle.laws.proofs.Base.Lists.{_&_, both-true}
 use Rattle.laws.proofs.Base.Walks.{given-inj, bind-case, bind-on, checks-case, checks-on, Allowed}
 use Rattle.laws.proofs.Encoding.Uses.{sheet-uses}
 use Rattle.laws.proofs.Encoding.Lengths.{length-records, count-records}
+use Rattle.laws.proofs.Encoding.Tails.{clean-tails, all-clean, clean-is}
 use Rattle.laws.proofs.Writing.Limits.{all-fine, all-near}
 use Rattle.laws.proofs.Writing.Rows.{rows-back, rows-on}
 
@@ -102,13 +104,14 @@ head-on h f = (
 -- The writer at any allowed years
 
 pub table-sound : (al : ℕ → Bool) (h : Head) (t : Table) → Typed h → Bytes (t .bytes) → (u : Sheet) → answer al (tableWalk h t) ≡ given u
-    → Fine u × Allowed al (years u) × (u .head ≡ h) × (flatten (u .records) ≡ t)
+    → Fine u × Allowed al (years u) × (u .head ≡ h) × (flatten (u .records) ≡ t) × AllClean (u .tails)
 unfolding tableWalk headWalk titleRules limitRules
 table-sound al h t ty bs u e =
     let second = textFits Descriptor.designation (h .designation2) ∷ [] in
     four-case al 0 (titleRules h) (restChecks (h .rest)) second (carriedChecks (h .carried)) _ u e λ c y e1.
     bind-case al (rowsWalk t) _ u e1 λ l el e2.
-    let v : Sheet = record { head = h; records = l } in
+    let v : Sheet = cleanSheet h l in
+    let fine : FineHead h = head-back h ty c in
     checks-case al 0 (limitRules v) (ends v) u e2 λ d z g.
     let r = rows-back al t bs l el in
     let short : length (encode v) ≤ limit = leb-true _ _ (d .0) in
@@ -116,30 +119,40 @@ table-sound al h t ty bs u e =
     rw (← (given-inj g)) (
       record {
         short = short;
-        head = head-back h ty c;
+        head = fine;
+        tails = clean-tails h fine;
         count = omega (arith, count-records l);
         records = all-fine l (omega arith) (r .0);
       },
       sheet-uses al v .1 (y .1, y .3, r .1),
       refl,
       r .2,
+      all-clean h,
     )
 
-pub table-complete : (al : ℕ → Bool) (u : Sheet) → Fine u → Allowed al (years u) → answer al (tableWalk (u .head) (flatten (u .records))) ≡ given u
+table-on : (al : ℕ → Bool) (h : Head) (l : List Record) → Fine (cleanSheet h l) → Allowed al (years (cleanSheet h l))
+    → answer al (tableWalk h (flatten l)) ≡ given (cleanSheet h l)
 unfolding tableWalk headWalk titleRules limitRules
-table-complete al u f y =
-    let h : Head = u .head in
+table-on al h l f y =
+    let u : Sheet = cleanSheet h l in
     let z = sheet-uses al u .0 y in
     four-on al 0 (titleRules h) (restChecks (h .rest)) (textFits Descriptor.designation (h .designation2) ∷ []) (carriedChecks (h .carried)) _
     (head-on h (f .head)) (tt, z .0, tt, z .1)
     ∙ bind-on al (rowsWalk (flatten (u .records))) _ (u .records) (rows-on al (u .records) (all-near (u .records) (f .records)) (z .2))
     ∙ checks-on al 0 (limitRules u) (ends u) (le-leb _ _ (f .short) & tt) tt
 
--- exactly the fine sheets with that head and that table, whose years are allowed
+pub table-complete : (al : ℕ → Bool) (u : Sheet) → Fine u → AllClean (u .tails) → Allowed al (years u)
+    → answer al (tableWalk (u .head) (flatten (u .records))) ≡ given u
+table-complete al u f c y =
+    let e : u ≡ cleanOf u = clean-is u f c in
+    subst (λ v. answer al (tableWalk (u .head) (flatten (u .records))) ≡ given v) (sym e)
+    (table-on al (u .head) (u .records) (subst (λ v. Fine v) e f) (subst (λ v. Allowed al (years v)) e y))
+
+-- exactly the fine and clean sheets with that head and that table, whose years are allowed
 pub table-at : (al : ℕ → Bool) (h : Head) (t : Table) → Typed h → Bytes (t .bytes) → (u : Sheet)
-    → (answer al (tableWalk h t) ≡ given u) ↔ (Fine u × Allowed al (years u) × (u .head ≡ h) × (flatten (u .records) ≡ t))
+    → (answer al (tableWalk h t) ≡ given u) ↔ (Fine u × Allowed al (years u) × (u .head ≡ h) × (flatten (u .records) ≡ t) × AllClean (u .tails))
 table-at al h t ty bs u = (
   λ e. table-sound al h t ty bs u e,
   λ f. subst (λ k. answer al (tableWalk k t) ≡ given u) (f .2) (subst (λ x. answer al (tableWalk (u .head) x) ≡ given u) (f .3)
-      (table-complete al u (f .0) (f .1))),
+      (table-complete al u (f .0) (f .4) (f .1))),
 )

@@ -8,7 +8,7 @@ use native.Mathlib.Nat.{zero-mul, add-mul}
 use native.Mathlib.Omega.{arith}
 use Rattle.layout.specs.Bytes.{All, flat, storedAll, repeat, total}
 use Rattle.layout.specs.Layout.Encode.{encodeItem, encodeText, encodePart, encodeSubobject, encodeMetric, encodeSemantics, encodeRecord, encode}
-use Rattle.layout.specs.Layout.Fine.{FineItem, FinePart, FineSubobject, FineHead}
+use Rattle.layout.specs.Layout.Fine.{FineItem, FinePart, FineSubobject, FineHead, FineTails}
 use Rattle.layout.specs.Layout.Sizes.{sumBy, itemBytes, partBytes, subobjectBytes, recordBytes}
 use Rattle.layout.specs.Reading.Sheets.{start}
 use Rattle.layout.specs.Shared.Mark.{hasMark}
@@ -69,9 +69,10 @@ record-length r n =
     omega (arith, length-record r, metric, first, later, items)
 
 -- what TOO LONG is asked of: 452 and the records
-pub encode-length : (u : Sheet) → FineHead (u .head) → All NearRecord (u .records) → length (encode u) ≡ start + sumBy recordBytes (u .records)
-encode-length u f n =
-    omega (arith, length-encode u f, length-flat encodeRecord NearRecord recordBytes record-length (u .records) n)
+pub encode-length : (u : Sheet) → FineHead (u .head) → FineTails (u .head) (u .tails) → All NearRecord (u .records)
+    → length (encode u) ≡ start + sumBy recordBytes (u .records)
+encode-length u f g n =
+    omega (arith, length-encode u f g, length-flat encodeRecord NearRecord recordBytes record-length (u .records) n)
 
 -- The three lists of a table
 

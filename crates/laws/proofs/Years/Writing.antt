@@ -9,6 +9,7 @@ use Rattle.layout.specs.Shared.Carried.{restChecks, carriedChecks}
 use Rattle.layout.specs.Shared.Mark.{hasMark}
 use Rattle.layout.specs.Shared.Reference.{referenceChecks}
 use Rattle.layout.specs.Shared.Row
+use Rattle.layout.specs.Shared.Tails.{cleanSheet}
 use Rattle.layout.specs.Shared.Texts.{textFits}
 use Rattle.layout.specs.Sheet.{Part, Reference, Head, Table}
 use Rattle.layout.specs.Walk.{Check}
@@ -91,4 +92,4 @@ unfolding tableWalk rowsWalk limitRules
 own-table h t =
     own-bind (headWalk h) _ (own-head h)
     (λ _. own-bind (rowsWalk t) _ (own-rows (length (t .numbers)) 0 (t .numbers) (t .elements) (t .bytes))
-    (λ l. own-then 0 (limitRules (record { head = h; records = l })) _ (refl & tt) tt))
+    (λ l. own-then 0 (limitRules (cleanSheet h l)) _ (refl & tt) tt))

@@ -9,7 +9,8 @@ use Rattle.layout.specs.Fields.Block
 use Rattle.layout.specs.Index.Blocks.{begun}
 use Rattle.layout.specs.Layout.Encode.{encodeRecord, sheetSum}
 use Rattle.layout.specs.Shared.Row.{referenceNumber}
-use Rattle.layout.specs.Sheet.{Record, Head, Sheet, Table}
+use Rattle.layout.specs.Shared.Texts.{isClean}
+use Rattle.layout.specs.Sheet.{Record, Head, Tails, Sheet, Table}
 use Rattle.layout.specs.Walk.{Answer, given, refused}
 use Rattle.layout.specs.Writing.Tables.{flatten}
 use Rattle.layout.specs.declared.Checked.{Checked}
@@ -77,18 +78,23 @@ unfoldable pub foundOf : Answer Placed → Found
 foundOf (given p) = Find.Record (recordAt p)
 foundOf (refused number place year) = Find.Refused (refusal number place year)
 
-abbrev pub headAt : Head → HeadAt
-headAt h =
+-- "the text before the first zero and whether the rest was clean" (02, 6)
+abbrev pub headAt : Head → Tails → HeadAt
+headAt h tails =
     record {
       date = length (h .date);
       designation = length (h .designation);
       scale = h .scale;
       title = length (h .title);
       designation2 = length (h .designation2);
+      «date_clean» = isClean (tails .date);
+      «designation_clean» = isClean (tails .designation);
+      «title_clean» = isClean (tails .title);
+      «designation2_clean» = isClean (tails .designation2);
     }
 
 unfoldable pub headedOf : Answer Sheet → Headed
-headedOf (given t) = Heads.Head (headAt (t .head))
+headedOf (given t) = Heads.Head (headAt (t .head) (t .tails))
 headedOf (refused number place year) = Heads.Refused (refusal number place year)
 
 unfoldable pub writtenOf : Answer (List ℕ) → Written

@@ -57,9 +57,9 @@ use Rattle.layout.specs.declared.structs.SxfChecked.{SxfChecked}
 use Rattle.layout.specs.declared.structs.SxfWritten.{SxfWritten}
 
 -- The version of the calls for C, `SXF_VERSION` of include/sxf.h. It is raised where a program has to be changed or built again: 2, since a
--- row has nine numbers and a record its mark (02, request 2).
+-- row has nine numbers and a record its mark (02, request 2); 3, since a head has four flags (02, request 6).
 abbrev pub version : ℕ
-version = 2
+version = 3
 
 unfoldable pub checkedRow : Checked → SxfChecked
 checkedRow (Check.Accepted z) =
@@ -129,11 +129,38 @@ recordRow (Find.Refused r) =
       points = 0;
     }
 
+-- a flag is 1 where the field is clean
 unfoldable pub headRow : Headed → SxfHead
 headRow (Heads.Head x) =
-    record { number = 0; place = 0; year = 0; date = x .date; designation = x .designation; title = x .title; designation2 = x .designation2; scale = x .scale }
+    record {
+      number = 0;
+      place = 0;
+      year = 0;
+      date = x .date;
+      designation = x .designation;
+      title = x .title;
+      designation2 = x .designation2;
+      scale = x .scale;
+      «date_clean» = cond (x .«date_clean») 1 0;
+      «designation_clean» = cond (x .«designation_clean») 1 0;
+      «title_clean» = cond (x .«title_clean») 1 0;
+      «designation2_clean» = cond (x .«designation2_clean») 1 0;
+    }
 headRow (Heads.Refused r) =
-    record { number = r .number; place = r .place; year = r .year; date = 0; designation = 0; title = 0; designation2 = 0; scale = 0 }
+    record {
+      number = r .number;
+      place = r .place;
+      year = r .year;
+      date = 0;
+      designation = 0;
+      title = 0;
+      designation2 = 0;
+      scale = 0;
+      «date_clean» = 0;
+      «designation_clean» = 0;
+      «title_clean» = 0;
+      «designation2_clean» = 0;
+    }
 
 -- a unit by its number, and the byte of an unknown one: device points 1, metres 2, radians 3, degrees 4, unknown 5
 abbrev pub unitAs : ℕ → ℕ → SxfUnit

@@ -11,10 +11,10 @@ use Rattle.layout.specs.Fields.Passport
 use Rattle.layout.specs.Fields.Subobject
 use Rattle.layout.specs.Shared.Mark.{pointsOf, n1Of, n2Of}
 use Rattle.layout.specs.Shared.Reference.{textInMetric}
-use Rattle.layout.specs.Shared.Texts.{padded}
+use Rattle.layout.specs.Shared.Texts.{tailed}
 use Rattle.layout.specs.Shared.Types.{kindOf, lengthBytes}
 use Rattle.layout.specs.Shared.Widths.{widths}
-use Rattle.layout.specs.Sheet.{Item, Part, Reference, Record, Head, Sheet}
+use Rattle.layout.specs.Sheet.{Item, Part, Reference, Record, Head, Tails, Sheet}
 
 -- "Each item: code (2), type (1), scale (1), value", and with type 128 a length before the value
 unfoldable pub encodeItem : Item → List ℕ
@@ -64,28 +64,28 @@ encodeHeader r metric semantics =
 unfoldable pub encodeRecord : Record → List ℕ
 encodeRecord r = encodeHeader r (length (encodeMetric r)) (length (encodeSemantics r)) ++ encodeMetric r ++ encodeSemantics r
 
--- passport and descriptor, with a sum and a record count
-unfoldable pub encodeHead : Head → ℕ → ℕ → List ℕ
-encodeHead h sum count =
+-- passport and descriptor, with the tails of the texts, a sum and a record count
+unfoldable pub encodeHead : Head → Tails → ℕ → ℕ → List ℕ
+encodeHead h tails sum count =
     stored Passport.identifier Passport.identifier-is
     ++ stored Passport.ownLength Passport.ownLength-is
     ++ stored Passport.edition Passport.edition-is
     ++ stored Passport.sum sum
-    ++ padded Passport.date (h .date)
-    ++ padded Passport.designation (h .designation)
+    ++ tailed (h .date) (tails .date)
+    ++ tailed (h .designation) (tails .designation)
     ++ stored Passport.scale (h .scale)
-    ++ padded Passport.title (h .title)
+    ++ tailed (h .title) (tails .title)
     ++ h .rest
     ++ stored Descriptor.identifier Descriptor.identifier-is
     ++ stored Descriptor.ownLength Descriptor.ownLength-is
-    ++ padded Descriptor.designation (h .designation2)
+    ++ tailed (h .designation2) (tails .designation2)
     ++ stored Descriptor.count count
     ++ h .carried
     ++ replicate (Descriptor.reserved .width) 0
 
 -- the sheet with a number in the field of its sum
 unfoldable pub encodeWith : Sheet → ℕ → List ℕ
-encodeWith t sum = encodeHead (t .head) sum (length (t .records)) ++ flat encodeRecord (t .records)
+encodeWith t sum = encodeHead (t .head) (t .tails) sum (length (t .records)) ++ flat encodeRecord (t .records)
 
 -- "all bytes of the sheet as numbers 0 to 255, with the four bytes at 12 counted as zero"
 unfoldable pub sheetSum : Sheet → ℕ

@@ -15,10 +15,10 @@ use Rattle.layout.specs.Layout.Encode.{encodeRecord, encode}
 use Rattle.layout.specs.Shared.Carried.{restChecks, carriedChecks}
 use Rattle.layout.specs.Shared.Mark.{hasMark, goodFirst, goodN1, n1Of}
 use Rattle.layout.specs.Shared.Reference.{referenceChecks, semantics, textInMetric}
-use Rattle.layout.specs.Shared.Texts.{FineText}
+use Rattle.layout.specs.Shared.Texts.{FineText, FineTail}
 use Rattle.layout.specs.Shared.Types.{kindOf, isKnown, goodScale, valueLength, goodLength, isClosed}
 use Rattle.layout.specs.Shared.Widths.{widths}
-use Rattle.layout.specs.Sheet.{Item, Part, Reference, Record, Head, Sheet}
+use Rattle.layout.specs.Sheet.{Item, Part, Reference, Record, Head, Tails, Sheet}
 use Rattle.layout.specs.Walk.{holds}
 
 -- a number that a field can hold, and a run of bytes that fills one
@@ -89,8 +89,16 @@ pub record FineHead (h : Head) : Type 0 where
   pub carried : Fills Descriptor.carried (h .carried)
   pub carriedHolds : holds (carriedChecks (h .carried))
 
+-- the tails that go with the texts of a head
+pub record FineTails (h : Head) (tails : Tails) : Type 0 where
+  pub date : FineTail Passport.date (h .date) (tails .date)
+  pub designation : FineTail Passport.designation (h .designation) (tails .designation)
+  pub title : FineTail Passport.title (h .title) (tails .title)
+  pub designation2 : FineTail Descriptor.designation (h .designation2) (tails .designation2)
+
 pub record Fine (t : Sheet) : Type 0 where
   pub short : length (encode t) ≤ limit
   pub head : FineHead (t .head)
+  pub tails : FineTails (t .head) (t .tails)
   pub count : Fits Descriptor.count (length (t .records))
   pub records : All FineRecord (t .records)

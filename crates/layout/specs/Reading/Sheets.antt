@@ -11,8 +11,8 @@ use Rattle.layout.specs.Fields.Passport
 use Rattle.layout.specs.Reading.Records.{recordWalk}
 use Rattle.layout.specs.Refusals.{TOO-LONG, SHORT, NOT-SXF, EDITION, SUM, LEFT-OVER}
 use Rattle.layout.specs.Shared.Carried.{allowed, restChecks, carriedChecks}
-use Rattle.layout.specs.Shared.Texts.{textOf, textField}
-use Rattle.layout.specs.Sheet.{Head, Sheet}
+use Rattle.layout.specs.Shared.Texts.{textOf, tailOf, textField}
+use Rattle.layout.specs.Sheet.{Head, Tails, Sheet}
 use Rattle.layout.specs.Walk.{Walk, Check, must, checks, _>>=_, _>>_, ends, times, whole}
 
 -- where the records start: after passport and descriptor, at 452
@@ -67,6 +67,16 @@ headIn s =
       carried = bytesIn Descriptor.carried s;
     }
 
+-- what is read past in the text fields
+abbrev pub tailsIn : List ℕ → Tails
+tailsIn s =
+    record {
+      date = tailOf (bytesIn Passport.date s);
+      designation = tailOf (bytesIn Passport.designation s);
+      title = tailOf (bytesIn Passport.title s);
+      designation2 = tailOf (bytesIn Descriptor.designation s);
+    }
+
 -- "LEFT OVER: bytes after the last record (the first)"
 unfoldable pub sheetWalk : List ℕ → Walk Sheet
 sheetWalk s = do
@@ -77,4 +87,4 @@ sheetWalk s = do
   checks 0 (carriedChecks (bytesIn Descriptor.carried s))
   checks 0 (reservedChecks s)
   records ← whole LEFT-OVER (times (numberIn Descriptor.count s) recordWalk) start (drop start s)
-  ends (record { head = headIn s; records = records })
+  ends (record { head = headIn s; tails = tailsIn s; records = records })

@@ -10,6 +10,7 @@ use Rattle.layout.specs.Fields.Passport
 use Rattle.layout.specs.Layout.Encode.{encode}
 use Rattle.layout.specs.Refusals.{TOO-LONG}
 use Rattle.layout.specs.Shared.Carried.{restChecks, carriedChecks}
+use Rattle.layout.specs.Shared.Tails.{cleanSheet}
 use Rattle.layout.specs.Shared.Texts.{textFits}
 use Rattle.layout.specs.Sheet.{Head, Sheet, Table}
 use Rattle.layout.specs.Walk.{Walk, Check, must, checks, _>>=_, _>>_, ends}
@@ -37,6 +38,6 @@ unfoldable pub tableWalk : Head → Table → Walk Sheet
 tableWalk h t = do
   headWalk h
   records ← rowsWalk t
-  let u : Sheet = record { head = h; records = records }
+  let u : Sheet = cleanSheet h records
   checks 0 (limitRules u)
   ends u

@@ -38,7 +38,8 @@ module _ (y : ℕ) (s : List ℕ) (z : Sizes) (a : Seen y s z) where
   pub read : Read s
   read = record { sheet = a .sheet; read = a .read }
 
-  pub head-right : (r : HeadAt) → ((t : Sheet) → outcome (sheetWalk s) ≡ ends t → r ≡ headAt (t .head)) → Heads.Head r ≡ headedOf (reading y s)
+  pub head-right : (r : HeadAt) → ((t : Sheet) → outcome (sheetWalk s) ≡ ends t → r ≡ headAt (t .head) (t .tails))
+      → Heads.Head r ≡ headedOf (reading y s)
   unfolding headedOf
   head-right r h = rw (a .is) (ap Heads.Head (h (a .sheet) (a .read)))
 

@@ -10,7 +10,7 @@ use Rattle.layout.specs.Bytes.{All, Bytes, flat, numberIn}
 use Rattle.layout.specs.Fields.{limit}
 use Rattle.layout.specs.Fields.Header as Field
 use Rattle.layout.specs.Layout.Encode.{encodeRecord, encodeHead, encodeWith, sheetSum, encode}
-use Rattle.layout.specs.Layout.Fine.{FineRecord, FineHead}
+use Rattle.layout.specs.Layout.Fine.{FineRecord, FineHead, FineTails}
 use Rattle.layout.specs.Layout.Uses.{recordYears}
 use Rattle.layout.specs.Reading.Hops.{placeIn}
 use Rattle.layout.specs.Reading.Sheets.{start, sheetWalk}
@@ -76,11 +76,12 @@ pub record Holds (al : ℕ → Bool) (s : List ℕ) (l : List Record) : Type 0 w
   pub years : Allowed al (flat recordYears l)
   pub is : drop start s ≡ flat encodeRecord l
 
-ends-in : (t : Sheet) → FineHead (t .head) → drop start (encode t) ≡ flat encodeRecord (t .records)
+ends-in : (t : Sheet) → FineHead (t .head) → FineTails (t .head) (t .tails) → drop start (encode t) ≡ flat encodeRecord (t .records)
 unfolding encode encodeWith
-ends-in t f =
+ends-in t f g =
     let count = length (t .records) in
-    drop-at (encodeHead (t .head) (sheetSum t) count) (flat encodeRecord (t .records)) start (head-length (t .head) (sheetSum t) count f)
+    drop-at (encodeHead (t .head) (t .tails) (sheetSum t) count) (flat encodeRecord (t .records)) start
+    (head-length (t .head) (t .tails) (sheetSum t) count f g)
 
 pub sheet-holds : (al : ℕ → Bool) (s : List ℕ) → Bytes s → (t : Sheet) → answer al (sheetWalk s) ≡ given t → Holds al s (t .records)
 sheet-holds al s b t e =
@@ -89,5 +90,5 @@ sheet-holds al s b t e =
       short = subst (λ x. length x ≤ limit) (g .2) (g .0 .short);
       fine = g .0 .records;
       years = sheet-uses al t .0 (g .1) .2;
-      is = ap (λ x. drop start x) (sym (g .2)) ∙ ends-in t (g .0 .head);
+      is = ap (λ x. drop start x) (sym (g .2)) ∙ ends-in t (g .0 .head) (g .0 .tails);
     }

@@ -38,7 +38,7 @@ use Rattle.laws.proofs.Base.Numbers.{number-bytes}
 use Rattle.laws.proofs.Base.Readers.{times-length}
 use Rattle.laws.proofs.Base.Walks.{bind-on, bind-refused, checks-append}
 use Rattle.laws.proofs.Encoding.Sums.{sum-fits}
-use Rattle.laws.proofs.Reading.Sheets.{size-holds, sheet-sound}
+use Rattle.laws.proofs.Reading.Sheets.{size-holds, sheetIn, sheet-sound}
 
 -- what an answer is, by what the code made of it
 
@@ -65,7 +65,7 @@ unfolding checkedOf flatten
 accepted t size z e n c sum f = rw (← e, ← c, f) refl
 
 abbrev tail : List ℕ → Walk Sheet
-tail s = whole LEFT-OVER (times (number 4 (drop 440 s)) recordWalk) 452 (drop 452 s) >>= λ l. ends (record { head = headIn s; records = l })
+tail s = whole LEFT-OVER (times (number 4 (drop 440 s)) recordWalk) 452 (drop 452 s) >>= λ l. ends (sheetIn s l)
 
 module _ (s : List ℕ) (l : length s ≤ limit) (m : 452 ≤ length s) where
   halves : sheetWalk s ≡ (checks 0 (headChecks s) >> tail s)
@@ -140,7 +140,7 @@ module _ (y : ℕ) (s : List ℕ) (H : Headed s y) (k : Counted) (here : k ≡ s
         let t : leb (length (drop 452 s)) (v .0 .size) ≡ true = le-leb (length (drop 452 s)) (v .0 .size) (omega (arith, u, length-drop 452 s)) in
         let w : answer (upTo y) (whole LEFT-OVER (times (number 4 (drop 440 s)) recordWalk) 452 (drop 452 s)) ≡ given (v .0 .value) =
         bind-on (upTo y) records _ (v .0) (v .1) ∙ rw t refl in
-        let sheet : Sheet = record { head = headIn s; records = v .0 .value } in
+        let sheet : Sheet = sheetIn s (v .0 .value) in
         let a : answer (upTo y) (sheetWalk s) ≡ given sheet = on
         ∙ bind-on (upTo y) (whole LEFT-OVER (times (number 4 (drop 440 s)) recordWalk) 452 (drop 452 s)) _ (v .0 .value) w in
         let count : length (v .0 .value) ≡ n = times-length (upTo y) recordWalk (number 4 (drop 440 s)) 452 (drop 452 s) (v .0) (v .1) ∙ sym c in

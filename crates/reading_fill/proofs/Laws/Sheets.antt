@@ -12,22 +12,21 @@ use Rattle.reading_fill.specs.Parts.{partIn, partSize, subobjectIn, subo
 use Rattle.reading_fill.specs.Pieces.{timesIn, timesSize, fillSize, Each}
 use Rattle.reading_fill.specs.Records.{shapeIn, firstIn, laterIn, recordOf, recordIn, recordSize, metricSize, RecordFits}
 use Rattle.reading_fill.specs.Sheets.{sheetRecords}
-use Rattle.layout.specs.Bytes.{agree, numberIn, some, bytesIn}
+use Rattle.layout.specs.Bytes.{agree, numberIn, some}
 use Rattle.layout.specs.Fields.Descriptor
 use Rattle.layout.specs.Fields.Header as Field
-use Rattle.layout.specs.Fields.Passport
 use Rattle.layout.specs.Reading.Items.{itemIn, itemSize, itemWalk}
 use Rattle.layout.specs.Reading.Parts.{partWalk, subobjectWalk, metricWalk}
 use Rattle.layout.specs.Reading.Records.{Header, headerIn, lengthChecks, headerWalk, metricIn, semanticsIn, bodyWalk, recordWith, recordWalk}
-use Rattle.layout.specs.Reading.Sheets.{start, sizeChecks, passportChecks, descriptorChecks, reservedChecks, sheetWalk}
+use Rattle.layout.specs.Reading.Sheets.{start, sizeChecks, sheetWalk}
 use Rattle.layout.specs.Refusals.{LENGTH, SHORT, LEFT-OVER}
-use Rattle.layout.specs.Shared.Carried.{restChecks, carriedChecks}
 use Rattle.layout.specs.Shared.Mark.{isMark}
 use Rattle.layout.specs.Shared.Reference.{semantics}
 use Rattle.layout.specs.Sheet.{Part, Record, Sheet}
 use Rattle.layout.specs.Walk.{outcome, ends, given, answer, always, must, Piece, piece, Pair, times, whole, fill}
 use Rattle.laws.proofs.Base.Valued.{Valued, whole-value, whole-inner, pair-valued}
 use Rattle.laws.proofs.Base.Walks.{given-inj, bind-case, checks-case, outcome-is}
+use Rattle.laws.proofs.Reading.Sheets.{sheet-went}
 use Rattle.reading_fill.proofs.Laws.Values.{times-valued, times-each, fill-value, item-valued, part-valued, subobject-valued}
 
 module _ (al : ℕ → Bool) where
@@ -86,26 +85,19 @@ module _ (al : ℕ → Bool) where
     pub each : Each RecordFits recordSize (numberIn Descriptor.count s) (drop start s)
 
   pub sheet-value : (s : List ℕ) (t : Sheet) → answer al (sheetWalk s) ≡ given t → Read s t
-  unfolding sheetWalk sizeChecks sheetRecords
+  unfolding sizeChecks sheetRecords
   sheet-value s t e =
       let n : ℕ = numberIn Descriptor.count s in
-      checks-case al 0 (sizeChecks s) _ t e λ c0 y0 e0.
-      checks-case al 0 (passportChecks s) _ t e0 λ c1 y1 e1.
-      checks-case al 0 (restChecks (bytesIn Passport.rest s)) _ t e1 λ c2 y2 e2.
-      checks-case al 0 (descriptorChecks s) _ t e2 λ c3 y3 e3.
-      checks-case al 0 (carriedChecks (bytesIn Descriptor.carried s)) _ t e3 λ c4 y4 e4.
-      checks-case al 0 (reservedChecks s) _ t e4 λ c5 y5 e5.
-      bind-case al (whole LEFT-OVER (times n recordWalk) start (drop start s)) _ t e5 λ l h g.
+      let w = sheet-went al s t e in
       let a = whole-value al (times n recordWalk) (timesIn recordIn recordSize n) (timesSize recordSize n)
-      (times-valued al recordWalk recordIn recordSize record-valued n) LEFT-OVER start (drop start s) l h in
+      (times-valued al recordWalk recordIn recordSize record-valued n) LEFT-OVER start (drop start s) (t .records) (w .records) in
       let each : Each RecordFits recordSize n (drop start s) =
       whole-inner al (times n recordWalk) (timesIn recordIn recordSize n) (timesSize recordSize n)
-      (times-valued al recordWalk recordIn recordSize record-valued n) LEFT-OVER start (drop start s) l h
+      (times-valued al recordWalk recordIn recordSize record-valued n) LEFT-OVER start (drop start s) (t .records) (w .records)
       λ v i. times-each al recordWalk recordIn recordSize record-valued RecordFits (λ p xs u q. record-value p xs u q .1) n start (drop start s) v i in
-      let long : start ≤ length s = leb-true _ _ (c0 .1 .0) in
+      let long : start ≤ length s = leb-true _ _ (w .size .1 .0) in
       record {
-        records = ap (λ (z : Sheet). z .records) (sym (given-inj g))
-            ∙ a .0;
+        records = a .0;
         long = long;
         size = omega (arith, a .1, long, length-drop start s);
         each = each;

@@ -16,6 +16,7 @@ use Rattle.layout.specs.Bytes.{Bytes}
 use Rattle.layout.specs.Fields.{limit}
 use Rattle.layout.specs.Layout.Encode.{encode}
 use Rattle.layout.specs.Layout.Fine.{Fine}
+use Rattle.layout.specs.Shared.Tails.{AllClean}
 use Rattle.layout.specs.Sheet.{Head, Sheet, Table}
 use Rattle.layout.specs.Walk.{Answer, given, refused, answer, upTo}
 use Rattle.layout.specs.Writing.Sheets.{tableWalk}
@@ -66,12 +67,12 @@ module _ (y : ℕ) (h : Head) (t : Table) (o : List ℕ) (v : Rows) (means : v �
     abbrev u : Sheet
     u = found .0
 
-    sound : Fine u × (u .head ≡ h) × (flatten (u .records) ≡ t)
-    sound = let s = table-sound (upTo y) h t typed bs u (found .1) in (s .0, s .2, s .3)
+    sound : Fine u × AllClean (u .tails) × (u .head ≡ h) × (flatten (u .records) ≡ t)
+    sound = let s = table-sound (upTo y) h t typed bs u (found .1) in (s .0, s .4, s .2, s .3)
 
     long : length (encode u) ≡ 452 + z .length
     long =
-        let n = encode-length u (sound .0 .head) (all-near (u .records) (sound .0 .records)) in
+        let n = encode-length u (sound .0 .head) (sound .0 .tails) (all-near (u .records) (sound .0 .records)) in
         omega (arith, n, ap (λ (x : Totals). x .length) (found .2))
 
     pub within : 452 + z .length ≤ limit
@@ -81,8 +82,9 @@ module _ (y : ℕ) (h : Head) (t : Table) (o : List ℕ) (v : Rows) (means : v �
     ready room = record {
       sheet = u;
       fine = sound .0;
-      head = sound .1;
-      records = sound .2;
+      clean = sound .1;
+      head = sound .2;
+      records = sound .3;
       totals = found .2;
       room = omega (arith, long, room);
     }
@@ -92,11 +94,11 @@ module _ (y : ℕ) (h : Head) (t : Table) (o : List ℕ) (v : Rows) (means : v �
     short-right less = rw (found .1, lt-leb (length (encode u)) (length o) (omega (arith, long, less))) (refl, refl)
 
     pub written-right : (out : List ℕ) → 452 + z .length ≤ length o
-        → ((w : Sheet) → Fine w → w .head ≡ h → flatten (w .records) ≡ t → out ≡ sets o 0 (encode w))
+        → ((w : Sheet) → Fine w → AllClean (w .tails) → w .head ≡ h → flatten (w .records) ≡ t → out ≡ sets o 0 (encode w))
         → Right (writtenAt y h t (length o)) o out (Write.Length (452 + z .length))
     unfolding writtenOf
     written-right out room holds =
-        let laid = holds u (sound .0) (sound .1) (sound .2) ∙ front-laid (encode u) o (omega (arith, long, room)) in
+        let laid = holds u (sound .0) (sound .1) (sound .2) (sound .3) ∙ front-laid (encode u) o (omega (arith, long, room)) in
         rw (found .1, le-leb (length (encode u)) (length o) (omega (arith, long, room))) (ap Write.Length (sym long), laid)
 
 -- at a setting that was made anew, or that is none of the nine

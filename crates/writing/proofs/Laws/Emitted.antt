@@ -12,16 +12,19 @@ use Rattle.layout.specs.Fields.{limit}
 use Rattle.layout.specs.Layout.Encode.{encodeHead, encodeRecord, encodeWith, sheetSum, encode}
 use Rattle.layout.specs.Layout.Fine.{Fine, FineHead}
 use Rattle.layout.specs.Reading.Sheets.{sumOf}
+use Rattle.layout.specs.Shared.Tails.{AllClean, cleanTails}
 use Rattle.layout.specs.Sheet.{Head, Record, Sheet, Table}
 use Rattle.layout.specs.Writing.Tables.{table, flatten}
 use Rattle.laws.proofs.Called.{table-once}
 use Rattle.laws.proofs.Encoding.Lengths.{head-length, length-encode}
 use Rattle.laws.proofs.Encoding.Sums.{length-with}
+use Rattle.laws.proofs.Encoding.Tails.{clean-is}
 use Rattle.laws.proofs.Reading.Sheets.{sum-with}
 use Rattle.laws.proofs.Writing.Limits.{all-near}
 use Rattle.laws.proofs.Writing.Records.{NearRecord}
 use Rattle.laws.proofs.Writing.Sizes.{encode-length}
 use Rattle.writing_check.specs.declared.tables.Totals.{Totals}
+use Rattle.writing_head.specs.Heads.{cleanHead}
 use Rattle.writing.specs.Ready.{Ready}
 
 -- what is written over bytes just as long
@@ -71,25 +74,18 @@ module _ (h : Head) (t : Table) (z : Totals) (ol : ℕ) (r : Ready h t z ol) whe
 
   length-is : length (encode u) ≡ 452 + z .length
   length-is =
-      let n = encode-length u (r .fine .head) (all-near (u .records) (r .fine .records)) in
+      let n = encode-length u (r .fine .head) (r .fine .tails) (all-near (u .records) (r .fine .records)) in
       omega (arith, n, ap (λ (x : Totals). x .length) (r .totals))
 
-  pub head-asks : (length (h .date) ≤ 12) × (length (h .designation) ≤ 32) × (length (h .title) ≤ 32) × (length (h .rest) ≡ 304)
-      × (length (h .designation2) ≤ 32) × (length (h .carried) ≡ 4) × (452 ≤ ol)
+  pub head-asks : (length (h .date) < 12) × (length (h .designation) < 32) × (length (h .title) < 32) × (length (h .rest) ≡ 304)
+      × (length (h .designation2) < 32) × (length (h .carried) ≡ 4) × (452 ≤ ol)
   head-asks =
-      let f = head-fine in (
-        omega (arith, f .date .short),
-        omega (arith, f .designation .short),
-        omega (arith, f .title .short),
-        f .rest .0,
-        omega (arith, f .designation2 .short),
-        f .carried .0,
-        omega (arith, length-is, r .room),
-      )
+      let f = head-fine in
+      (f .date .short, f .designation .short, f .title .short, f .rest .0, f .designation2 .short, f .carried .0, omega (arith, length-is, r .room))
 
   pub rows-ask : (l : ℕ) → l ≡ ol → Accepted (t .numbers) (t .elements) (t .bytes) (z .records) 452 l
   rows-ask l e =
-      let n = length-encode u (r .fine .head) in
+      let n = length-encode u (r .fine .head) (r .fine .tails) in
       record {
         rs = u .records;
         near = all-near (u .records) (r .fine .records);
@@ -102,22 +98,25 @@ module _ (h : Head) (t : Table) (z : Totals) (ol : ℕ) (r : Ready h t z ol) whe
   pub sum-asks : (l : ℕ) → l ≡ ol → (16 ≤ 452 + z .length) × (452 + z .length ≤ l) × (452 + z .length ≤ limit)
   sum-asks l e = (omega arith, omega (arith, length-is, r .room, e), omega (arith, length-is, r .fine .short))
 
-  pub emitted : (o o₁ o₂ o₃ : List ℕ) → length o ≡ ol → o₁ ≡ sets o 0 (encodeHead h 0 (z .records))
+  pub emitted : (o o₁ o₂ o₃ : List ℕ) → length o ≡ ol → o₁ ≡ sets o 0 (cleanHead h (z .records))
       → ((rs : List Record) → All NearRecord rs → flatten rs ≡ t → o₂ ≡ sets o₁ 452 (flat encodeRecord rs))
       → o₃ ≡ sets o₂ 12 (bytes 4 (sumOf (take (452 + z .length) o₂)))
-      → (v : Sheet) → Fine v → v .head ≡ h → flatten (v .records) ≡ t → o₃ ≡ sets o 0 (encode v)
+      → (v : Sheet) → Fine v → AllClean (v .tails) → v .head ≡ h → flatten (v .records) ≡ t → o₃ ≡ sets o 0 (encode v)
   unfolding encode encodeWith
-  emitted o o₁ o₂ o₃ l e₁ e₂ e₃ v fine head records =
-      let same : u ≡ v = table-once u v (r .fine) fine (r .head ∙ sym head) (r .records ∙ sym records) in
+  emitted o o₁ o₂ o₃ l e₁ e₂ e₃ v fine clean head records =
+      let same : u ≡ v = table-once u v (r .fine) fine (r .clean) clean (r .head ∙ sym head) (r .records ∙ sym records) in
       let count : z .records ≡ length (u .records) = ap (λ (x : Totals). x .records) (r .totals) in
-      let first : o₁ ≡ sets o 0 (encodeHead (u .head) 0 (length (u .records))) =
-      e₁ ∙ ap (λ (k : ℕ). sets o 0 (encodeHead h 0 k)) count ∙ ap (λ k. sets o 0 (encodeHead k 0 (length (u .records)))) (sym (r .head)) in
-      let long = head-length (u .head) 0 (length (u .records)) (r .fine .head) in
+      let front : List ℕ = encodeHead (u .head) (u .tails) 0 (length (u .records)) in
+      let tails : cleanTails (u .head) ≡ u .tails = ap (λ (x : Sheet). x .tails) (sym (clean-is u (r .fine) (r .clean))) in
+      let first : o₁ ≡ sets o 0 front =
+      e₁ ∙ ap (λ (k : ℕ). sets o 0 (cleanHead h k)) count ∙ ap (λ k. sets o 0 (cleanHead k (length (u .records)))) (sym (r .head))
+      ∙ ap (λ a. sets o 0 (encodeHead (u .head) a 0 (length (u .records)))) tails in
+      let long = head-length (u .head) (u .tails) 0 (length (u .records)) (r .fine .head) (r .fine .tails) in
       let two : o₂ ≡ sets o 0 (encodeWith u 0) =
       e₂ (u .records) (all-near (u .records) (r .fine .records)) (r .records)
       ∙ ap (λ x. sets x 452 (flat encodeRecord (u .records))) first
-      ∙ ap (λ (k : ℕ). sets (sets o 0 (encodeHead (u .head) 0 (length (u .records)))) k (flat encodeRecord (u .records))) (omega (arith, long))
-      ∙ sym (sets-append o 0 (encodeHead (u .head) 0 (length (u .records))) (flat encodeRecord (u .records))) in
+      ∙ ap (λ (k : ℕ). sets (sets o 0 front) k (flat encodeRecord (u .records))) (omega (arith, long))
+      ∙ sym (sets-append o 0 front (flat encodeRecord (u .records))) in
       let size : 452 + z .length ≡ length (encodeWith u 0) = sym length-is ∙ length-with u (sheetSum u) 0 in
       let laid : o₂ ≡ encodeWith u 0 ++ drop (length (encodeWith u 0)) o =
       two ∙ front-laid (encodeWith u 0) o (omega (arith, size, length-is, r .room, l)) in

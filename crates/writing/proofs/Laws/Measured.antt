@@ -22,6 +22,7 @@ use Rattle.layout.specs.Layout.Encode.{encode}
 use Rattle.layout.specs.Layout.Fine.{FineHead}
 use Rattle.layout.specs.Layout.Sizes.{sumBy, recordBytes}
 use Rattle.layout.specs.Shared.Carried.{restChecks, carriedChecks}
+use Rattle.layout.specs.Shared.Tails.{cleanSheet}
 use Rattle.layout.specs.Shared.Texts.{textFits}
 use Rattle.layout.specs.Sheet.{Head, Record, Sheet, Table}
 use Rattle.layout.specs.Walk.{Walk, Answer, given, refused, answer, upTo, Check, must, dated, holds, checks, _>>=_, _>>_, ends}
@@ -33,6 +34,7 @@ use Rattle.laws.proofs.Base.Chains.{four-then}
 use Rattle.laws.proofs.Base.Walks.{bind-on, bind-refused, checks-append}
 use Rattle.laws.proofs.Writing.Rows.{rows-back}
 use Rattle.laws.proofs.Writing.Sheets.{Typed, head-back}
+use Rattle.laws.proofs.Encoding.Tails.{clean-tails}
 use Rattle.laws.proofs.Writing.Sizes.{encode-length}
 use Rattle.writing_check.proofs.Laws.Moves.{capped-back}
 use Rattle.writing_check.specs.Places.{capped}
@@ -47,12 +49,9 @@ holds-both [] ds e = (tt, e)
 holds-both (must b n k ∷ cs) ds e = let r = holds-both cs ds (e .1) in ((e .0, r .0), r .1)
 holds-both (dated b z k ∷ cs) ds e = holds-both cs ds e
 
-abbrev sheetOf : Head → List Record → Sheet
-sheetOf h l = record { head = h; records = l }
-
 -- what comes after the head
 abbrev limited : Head → List Record → Walk Sheet
-limited h l = checks 0 (limitRules (sheetOf h l)) >> ends (sheetOf h l)
+limited h l = checks 0 (limitRules (cleanSheet h l)) >> ends (cleanSheet h l)
 
 -- the checks on the head in one list
 table-walk : (h : Head) (t : Table) → tableWalk h t ≡ (checks 0 (headRules h) >> (rowsWalk t >>= limited h))
@@ -116,18 +115,18 @@ module _ (y : ℕ) (h : Head) (t : Table) (r : Step) (n : Next Stp.Fine y 0 (hea
     module _ (typed : Typed h) (bs : Bytes (t .bytes)) (z : Totals) (e : v ≡ Are.Fine z) where
       -- the records, and how long their sheet is
       found : (l : List Record) × (all ≡ answer (upTo y) (limited h l)) × (z ≡ record { length = capped (sumBy recordBytes l); records = length l })
-          × (length (encode (sheetOf h l)) ≡ 452 + sumBy recordBytes l)
+          × (length (encode (cleanSheet h l)) ≡ 452 + sumBy recordBytes l)
       found =
           let g = rows-given (answer (upTo y) (rowsWalk t)) z (sym rows ∙ e) in
           let near = rows-back (upTo y) t bs (g .0) (g .1) .0 in
           let head = head-fine h typed (step-holds y 0 (headRules h) r n fine) in
-          (g .0, on ∙ bind-on (upTo y) (rowsWalk t) (limited h) (g .0) (g .1), g .2, encode-length (sheetOf h (g .0)) head near)
+          (g .0, on ∙ bind-on (upTo y) (rowsWalk t) (limited h) (g .0) (g .1), g .2, encode-length (cleanSheet h (g .0)) head (clean-tails h head) near)
 
       pub too-long : limit - start < z .length → Are.Refused (refusal TOO-LONG 0 0) ≡ measuredOf all
       unfolding limitRules
       too-long over =
           let l = found .0 in
-          let u = sheetOf h l in
+          let u = cleanSheet h l in
           let z-is : z .length ≡ capped (sumBy recordBytes l) = ap (λ (x : Totals). x .length) (found .2) in
           let long : limit < length (encode u) = omega (arith, over, z-is, capped-low (sumBy recordBytes l), found .3) in
           let stop : answer (upTo y) (limited h l) ≡ refused TOO-LONG 0 0 = rw (lt-leb (length (encode u)) limit long) refl in
@@ -137,7 +136,7 @@ module _ (y : ℕ) (h : Head) (t : Table) (r : Step) (n : Next Stp.Fine y 0 (hea
       unfolding limitRules
       fits under =
           let l = found .0 in
-          let u = sheetOf h l in
+          let u = cleanSheet h l in
           let z-is : z .length ≡ capped (sumBy recordBytes l) = ap (λ (x : Totals). x .length) (found .2) in
           let same : capped (sumBy recordBytes l) ≡ sumBy recordBytes l = capped-back (sumBy recordBytes l) (omega (arith, under, z-is)) in
           let short : length (encode u) ≤ limit = omega (arith, under, z-is, same, found .3) in

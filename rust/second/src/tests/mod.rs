@@ -8,6 +8,7 @@ mod limits;
 mod meanings;
 mod random;
 mod reading;
+mod tails;
 mod writing;
 
 use crate::{Head, Reading, Refusal, Sizes, Table};

@@ -1,7 +1,7 @@
 //! Sheets and tables by chance: round trips, later settings, no panic.
 
 use super::*;
-use crate::{check, first_with, read, record_at, write, Hit, Hop};
+use crate::{check, cleared, first_with, read, record_at, write, Hit, Hop};
 
 const YEARS: [u32; 9] = [1999, 2004, 2006, 2008, 2012, 2014, 2015, 2016, 2017];
 
@@ -107,8 +107,8 @@ fn head_by_chance(chance: &mut Chance) -> Head {
     head
 }
 
-/// Whatever is read is written back, checking tells its sizes or its
-/// refusal, and later settings read the same.
+/// Whatever is read is written back with its tails cleared, checking tells its
+/// sizes or its refusal, and later settings read the same.
 fn hold_sheet(sheet: &[u8]) -> bool {
     let mut last = None;
     for year in YEARS {
@@ -118,7 +118,8 @@ fn hold_sheet(sheet: &[u8]) -> bool {
         }
         if let Ok(reading) = &reading {
             let written = write(year, &reading.head, &reading.table, sheet.len());
-            assert_eq!(written.as_deref(), Ok(sheet));
+            assert_eq!(written, Ok(cleared(sheet)));
+            assert_eq!(written.as_deref() == Ok(sheet), reading.tails.all_clean());
         }
         assert_eq!(check(sheet, year), reading.as_ref().map(sizes_of).map_err(|refusal| *refusal));
         let answer = record_at(sheet, year, 0);

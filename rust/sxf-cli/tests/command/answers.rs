@@ -46,9 +46,15 @@ fn a_refusal_is_told_by_number_name_place_and_meaning() {
 
 #[test]
 fn usage_and_unreadable_files_are_status_2() {
-    for words in
-        [&[][..], &["check"], &["bogus"], &["check", "x", "--year", "2005"], &["check", "x", "--year", "new"], &["write", "-"]]
-    {
+    for words in [
+        &[][..],
+        &["check"],
+        &["bogus"],
+        &["check", "x", "--year", "2005"],
+        &["check", "x", "--year", "new"],
+        &["write", "-"],
+        &["clean", "x"],
+    ] {
         let output = sxf(words).output().expect("sxf runs");
         assert_eq!(status(&output), 2, "{words:?}");
         told(&output);
@@ -81,7 +87,7 @@ const YEARS: &str = "1999, 2004, 2006, 2008, 2012, 2014, 2015, 2016, 2017";
 #[test]
 fn the_nine_years_stand_in_the_help() {
     let mut words = vec![&["--help"][..], &["-h"], &["check", "--help"], &["show", "-h"], &["table", "-h"], &["write", "--help"]];
-    words.extend([&["index", "--help"][..], &["select", "-h"]]);
+    words.extend([&["index", "--help"][..], &["select", "-h"], &["clean", "--help"]]);
     for words in words {
         let help = sxf(words).output().expect("sxf runs");
         assert!(out(&help).contains(YEARS), "{words:?}: {}", out(&help));

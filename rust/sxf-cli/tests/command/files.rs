@@ -1,5 +1,5 @@
 //! What is written where, and what is left where it is.
-use crate::run::{fed, on, out, sample, status, sxf, told, write, Folder};
+use crate::run::{fed, on, out, redirected, sample, status, sxf, told, write, Folder};
 use std::env;
 use std::fs::{self, Metadata, Permissions};
 use std::io;
@@ -206,11 +206,7 @@ fn a_full_disk_is_a_failure() {
 fn a_closed_standard_output_is_a_failure() {
     let folder = Folder::new("closed");
     fs::write(folder.file("q.json"), on("table", &sample("Q"), &[]).stdout).expect("a file");
-    let run = |redirected: &str, words: &[&str]| {
-        let mut shell = Command::new("sh");
-        shell.args(["-c", &format!("exec \"$@\" {redirected}"), "sh", env!("CARGO_BIN_EXE_sxf")]).args(words);
-        shell.current_dir(&folder.0).output().expect("sh runs")
-    };
+    let run = |how: &str, words: &[&str]| redirected(&folder, how, words);
     // The index of E has no byte, and is lost all the same.
     let [e, q] = ["E", "Q"].map(|name| sample(name).to_string_lossy().into_owned());
     for words in [
@@ -222,14 +218,15 @@ fn a_closed_standard_output_is_a_failure() {
         &["write", "q.json", "-o", "-"],
         &["index", &q, "-o", "-"],
         &["index", &e, "-o", "-"],
+        &["clean", &q, "-o", "-"],
         &["select", &q, "--code", "0"],
         &["frame", &q],
         &["find", &q, "--code", "0"],
         &["--help"],
     ] {
-        for (redirected, why) in [(">&-", "it is closed"), ("1</dev/null", "Bad file descriptor")] {
-            let output = run(redirected, words);
-            assert_eq!(status(&output), 2, "{words:?} {redirected}");
+        for (how, why) in [(">&-", "it is closed"), ("1</dev/null", "Bad file descriptor")] {
+            let output = run(how, words);
+            assert_eq!(status(&output), 2, "{words:?} {how}");
             assert!(told(&output).contains(&format!("standard output: {why}")), "{}", told(&output));
         }
         assert_eq!(status(&run(">/dev/null", words)), 0, "{words:?}");

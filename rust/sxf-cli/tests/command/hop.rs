@@ -83,7 +83,7 @@ fn a_sheet_that_is_not_accepted_may_have_its_frame_found() {
         let frame = on("frame", &sample(name), &[]);
         assert_eq!((status(&frame), out(&frame)), (0, line), "{name}");
     }
-    for name in ["sum-wrong", "dirty-tail"] {
+    for name in ["sum-wrong", "no-zero"] {
         assert_eq!(status(&find(&sample(name), 0)), 0, "{name}");
     }
 }

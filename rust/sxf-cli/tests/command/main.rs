@@ -9,5 +9,6 @@ mod lines;
 mod mark;
 mod pages;
 mod run;
+mod tails;
 mod texts;
 mod tools;

@@ -55,5 +55,5 @@ fn readme_is_as_printed() {
 
 #[test]
 fn the_commands_page_is_as_printed() {
-    is_as_printed("rust/sxf-cli/README.md", 51);
+    is_as_printed("rust/sxf-cli/README.md", 60);
 }

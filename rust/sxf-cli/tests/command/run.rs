@@ -4,7 +4,7 @@ use std::io::Write;
 use std::path::{Path, PathBuf};
 use std::process::{Command, Output, Stdio};
 
-pub const ACCEPTED: [&str; 16] = [
+pub const ACCEPTED: [&str; 18] = [
     "E",
     "P",
     "Q",
@@ -21,9 +21,12 @@ pub const ACCEPTED: [&str; 16] = [
     "cyrillic-windows",
     "cyrillic-koi8",
     "no-character",
+    "dirty-tail",
+    "old-letters",
 ];
-pub const REFUSED: [&str; 8] =
-    ["sum-wrong", "too-short", "not-sxf", "dirty-tail", "closing", "graphics", "left-over", "n1-not-zero"];
+/// Those of them that have old letters after the first zero of a text field.
+pub const DIRTY: [&str; 2] = ["dirty-tail", "old-letters"];
+pub const REFUSED: [&str; 8] = ["sum-wrong", "too-short", "not-sxf", "no-zero", "closing", "graphics", "left-over", "n1-not-zero"];
 
 /// The top of the repository.
 pub fn top() -> PathBuf {
@@ -107,6 +110,13 @@ pub fn is_told(folder: &Folder, ends: i32, lines: &[u8], words: &str) {
 /// Writes a sheet from these lines.
 pub fn write(json: &[u8], file: &Path, more: &[&str]) -> Output {
     fed(sxf(&["write", "-", "-o"]).arg(file).args(more), json)
+}
+
+/// Runs the command in a folder, by a shell that redirects as is said.
+pub fn redirected(folder: &Folder, how: &str, words: &[&str]) -> Output {
+    let mut shell = Command::new("sh");
+    shell.args(["-c", &format!("exec \"$@\" {how}"), "sh", env!("CARGO_BIN_EXE_sxf")]).args(words);
+    shell.current_dir(&folder.0).output().expect("sh runs")
 }
 
 /// Runs a command that reads these bytes to their end before it prints.

@@ -1,7 +1,8 @@
-//! `sxf table F | TOOL | sxf write` gives F's bytes for every tool that keeps doubles. `jq` and `python3` are Debian's, which .ci/packages installs,
+//! `sxf table F | TOOL | sxf write` gives F's bytes, with tails cleared, for every tool that keeps doubles. `jq` and `python3` are Debian's, which .ci/packages installs,
 //! whatever else of these names there is.
 use crate::run::{on, out, sample, Folder, ACCEPTED};
 use crate::{drawn, every, mark};
+use second::cleared;
 use std::collections::BTreeSet;
 use std::fs;
 use std::num::FpCategory;
@@ -29,7 +30,7 @@ const PATH: &str = "/usr/bin:/bin";
 
 /// Sees that a sheet comes back through each tool.
 fn comes_back(folder: &Folder, sheet: &Path) {
-    let bytes = fs::read(sheet).expect("a sheet");
+    let bytes = cleared(&fs::read(sheet).expect("a sheet"));
     for tool in TOOLS {
         let mut shell = Command::new("sh");
         shell.args(["-c", &format!("\"$SXF\" table \"$SHEET\" | {tool} | \"$SXF\" write - -o again.sxf --force")]);

@@ -3,6 +3,7 @@
 
 use std::fs;
 use std::path::PathBuf;
+use sxf::fields::{descriptor, passport, Field};
 use sxf::{Head, Localisation, NewPart, NewRecord, Number, Point, Reference, Setting, Sheet, Writer};
 
 /// How many codes the records of a sheet have in turn. A block of an index has 63 entries, so blocks begin with different codes.
@@ -35,7 +36,7 @@ pub fn read(bytes: &[u8]) -> Sheet<'_> {
 }
 
 /// The samples that are accepted at the newest setting.
-pub const ACCEPTED: [&str; 16] = [
+pub const ACCEPTED: [&str; 18] = [
     "E",
     "P",
     "Q",
@@ -52,7 +53,36 @@ pub const ACCEPTED: [&str; 16] = [
     "cyrillic-windows",
     "cyrillic-koi8",
     "no-character",
+    "dirty-tail",
+    "old-letters",
 ];
+
+/// Those of them that have old letters after the first zero of a text field.
+pub const DIRTY: [&str; 2] = ["dirty-tail", "old-letters"];
+
+/// The four text fields, with the names of their texts.
+pub const TEXT_FIELDS: [(&str, Field); 4] = [
+    ("date", passport::DATE),
+    ("designation", passport::DESIGNATION),
+    ("title", passport::TITLE),
+    ("designation2", descriptor::DESIGNATION),
+];
+
+pub fn put_sum_right(sheet: &mut [u8]) {
+    sheet[passport::SUM.range()].fill(0);
+    let sum: u32 = sheet.iter().map(|&b| u32::from(b)).sum();
+    sheet[passport::SUM.range()].copy_from_slice(&sum.to_le_bytes());
+}
+
+/// A sheet's bytes "with those tails cleared and the sum to match" (02, request 6), worked out here.
+pub fn cleared(sheet: &[u8]) -> Vec<u8> {
+    let mut sheet = sheet.to_vec();
+    for (_, field) in TEXT_FIELDS {
+        sheet[field.range()].iter_mut().skip_while(|byte| **byte != 0).for_each(|byte| *byte = 0);
+    }
+    put_sum_right(&mut sheet);
+    sheet
+}
 
 pub fn sample(name: &str) -> Vec<u8> {
     let path = PathBuf::from(env!("CARGO_MANIFEST_DIR")).join("../../samples").join(name).with_extension("sxf");

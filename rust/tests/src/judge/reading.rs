@@ -39,7 +39,10 @@ impl Judge {
     fn reads_at(&mut self, sheet: &[u8], year: u32, care: Care, numbers: &mut Numbers) -> bool {
         let due = second::read(sheet, year);
         match &due {
-            Ok(reading) => self.meet_features(&reading.head, &reading.table),
+            Ok(reading) => {
+                self.meet_features(&reading.head, &reading.table);
+                self.meet_tails(&reading.tails);
+            }
             Err(refusal) => self.meet_reason(reasons::of_sheet(sheet, *refusal)),
         }
         let answer = archive::check(sheet, year);
@@ -166,12 +169,14 @@ impl Judge {
         let refusal = refusal_of(due);
         let mut expected =
             archive::Head { number: refusal.number, place: refusal.place, year: refusal.year, ..archive::Head::default() };
-        if let Ok(Reading { head, .. }) = due {
+        if let Ok(Reading { head, tails, .. }) = due {
             expected.date = head.date.len() as u64;
             expected.designation = head.designation.len() as u64;
             expected.title = head.title.len() as u64;
             expected.designation2 = head.designation2.len() as u64;
             expected.scale = u64::from(head.scale);
+            let clean = tails.clean().map(u64::from);
+            [expected.date_clean, expected.designation_clean, expected.title_clean, expected.designation2_clean] = clean;
         }
         self.same(|| format!("head at {year}"), answer, expected);
         self.unit_of(sheet, year);
@@ -206,16 +211,48 @@ impl Judge {
         self.same(|| format!("corners at {year}"), answer, expected);
     }
 
-    /// What was unfolded from a sheet is written to the same bytes.
+    /// Document 02, request 6: "writing the reading of an accepted sheet gives
+    /// its bytes with those tails cleared and the sum to match". They are its own
+    /// bytes where all tails are clean.
     fn writes_back(&mut self, sheet: &[u8], year: u32, reading: &Reading) {
+        let cleared = second::cleared(sheet);
+        self.same(|| "whether clearing its tails leaves the sheet".into(), cleared == sheet, reading.tails.all_clean());
         let out = self.out.lend(sheet.len());
         let answer = archive::write(year, &reading.head, &reading.table, out);
         self.meet(Call::Write, answer.number);
         let expected = archive::Written { length: sheet.len() as u64, ..archive::Written::default() };
         let asked = || format!("writing back at {year}");
         self.same(asked, answer, expected);
-        let found = self.out.holds(sheet);
+        let found = self.out.holds(&cleared);
         self.whole(asked, "bytes", found);
+        if cleared != sheet {
+            self.reads_cleared(sheet, &cleared, year, reading);
+        }
+    }
+
+    /// The cleared sheet is read as the sheet is, but that all its tails are
+    /// clean, and its sum is without them.
+    fn reads_cleared(&mut self, sheet: &[u8], cleared: &[u8], year: u32, reading: &Reading) {
+        let asked = |what: &str| format!("{what} of the cleared sheet at {year}");
+        let tails: u64 = reading.tails.by_place().concat().into_iter().map(u64::from).sum();
+        let due = archive::Checked { sum: reading.sum - tails, ..archive::check(sheet, year) };
+        self.same(|| asked("check"), archive::check(cleared, year), due);
+        let (answer, (numbers, elements, bytes)) = archive::unfold_new(cleared, year, table_sizes(&reading.table));
+        self.same(|| asked("unfold"), answer, due);
+        // A table may be large; it is not told in full.
+        self.same(|| asked("table"), Table { numbers, elements, bytes } == reading.table, true);
+        let due = archive::Head {
+            date_clean: 1,
+            designation_clean: 1,
+            title_clean: 1,
+            designation2_clean: 1,
+            ..archive::head_of(sheet, year)
+        };
+        self.same(|| asked("head"), archive::head_of(cleared, year), due);
+        self.same(|| asked("unit"), archive::unit_of(cleared, year), archive::unit_of(sheet, year));
+        self.same(|| asked("corners"), archive::corners_of(cleared, year), archive::corners_of(sheet, year));
+        let last = reading.records.wrapping_sub(1);
+        self.same(|| asked("last record"), archive::record_at(cleared, year, last), archive::record_at(sheet, year, last));
     }
 }
 

@@ -62,7 +62,8 @@ impl Judge {
         self.whole(asked, "written bytes", found);
     }
 
-    /// What was written is read as the same table and head.
+    /// What was written is read as the same table and head, and has no old
+    /// letters.
     fn reads_back(&mut self, year: u32, head: &Head, table: &Table, sheet: &[u8]) {
         let due = second::read(sheet, year);
         let sizes = table_sizes(table);
@@ -70,7 +71,7 @@ impl Judge {
         let asked = || format!("reading back at {year}");
         match &due {
             Ok(reading) => {
-                self.same(asked, &reading.head, head);
+                self.same(asked, (&reading.head, reading.tails.all_clean()), (head, true));
                 // A table may be large; it is not told in full.
                 self.same(asked, reading.table == *table, true);
                 self.head_of(sheet, year, &due);

@@ -10,6 +10,20 @@ use crate::stored::{put, put_if_there};
 use sxf_sys::fields::{descriptor, header, passport, Field, LIMIT, START};
 use sxf_sys::refusals::{LENGTH, NOT_SXF, SHORT, TOO_LONG};
 
+/// How many there are.
+pub const CASES: u64 = 5;
+
+/// Runs one of them.
+pub fn run(judge: &mut Judge, case: u64) {
+    match case {
+        0 => hits(judge),
+        1 => refusals_of_head(judge),
+        2 => refusals_of_headers(judge),
+        3 => cuts(judge),
+        _ => not_looked_at(judge),
+    }
+}
+
 /// Where the records start, and where the sheet ends.
 const FIRST: usize = 452;
 const SECOND: usize = 488;
@@ -56,7 +70,7 @@ fn says(judge: &mut Judge, name: &str, sheet: &[u8], code: u32, due: Hop) {
 }
 
 /// The first record with a code, or none.
-pub fn hits(judge: &mut Judge) {
+fn hits(judge: &mut Judge) {
     let (three, p, q, e) = (three(), sheet_p(), sheet_q(), sheet_e());
     for (name, sheet, code, due) in [
         ("three records", &three, 7, hit(0, 452, 36, 1)),
@@ -83,7 +97,7 @@ pub fn hits(judge: &mut Judge) {
 }
 
 /// Size, identifiers and count.
-pub fn refusals_of_head(judge: &mut Judge) {
+fn refusals_of_head(judge: &mut Judge) {
     let three = three();
     says(judge, "451 bytes", &three[..451], 7, refused(SHORT, 0));
     says(judge, "351 bytes", &three[..351], 7, refused(SHORT, 0));
@@ -124,7 +138,7 @@ pub fn refusals_of_head(judge: &mut Judge) {
 }
 
 /// Identifier and total length of the second record, which come before its code.
-pub fn refusals_of_headers(judge: &mut Judge) {
+fn refusals_of_headers(judge: &mut Judge) {
     let no_identifier = three_with(header::IDENTIFIER.at(SECOND), 0x7FFF_7FFE);
     for (code, due) in [(7, hit(0, 452, 36, 1)), (8, refused(NOT_SXF, 488)), (9, refused(NOT_SXF, 488))] {
         says(judge, "another identifier of the second record", &no_identifier, code, due);
@@ -156,7 +170,7 @@ pub fn refusals_of_headers(judge: &mut Judge) {
 }
 
 /// Too few bytes for a header, or for a record.
-pub fn cuts(judge: &mut Judge) {
+fn cuts(judge: &mut Judge) {
     let three = three();
     for (length, seven, eight) in [
         (FIRST, refused(SHORT, 452), refused(SHORT, 452)),
@@ -178,7 +192,7 @@ pub fn cuts(judge: &mut Judge) {
 
 /// Lengths and edition, sum, texts and flags of the head, metric lengths,
 /// contents, and bytes after the last record: "contents and sum aren't checked".
-pub fn not_looked_at(judge: &mut Judge) {
+fn not_looked_at(judge: &mut Judge) {
     const MOST: u32 = 0xFFFF_FFFF;
     let fields = [
         passport::OWN_LENGTH,

@@ -10,7 +10,7 @@ returns c =
     let after-put-bytes = after-put-zeros .before .before .before .before in
     let start = after-put-bytes .before .before .before .before in
     rw (after-put-zeros .put-zeros .ensures, after-put-bytes .put-bytes .ensures)
-    (text-zeros (start .args .out .now) (start .args .text .now) (start .args .w) (start .args .width))
+    (text-zeros (start .args .out .now) (start .args .text .now) (start .args .w) (start .args .width) (start .pre .0))
 
 pub put-text-spec : {M : Type 1} → statement M
 put-text-spec =

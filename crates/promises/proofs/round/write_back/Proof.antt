@@ -1,4 +1,4 @@
--- Where the sheet unfolds and there is room, the answer is true and the slice begins with the sheet again. By the contracts of `unfold`,
+-- Where the sheet unfolds and there is room, the answer is true and the slice begins with the sheet, cleared. By the contracts of `unfold`,
 -- `head_of` and `write_read` the arms that answer false cannot be come to (Trips).
 use denote.Ref.{now}
 use mathlib.Core.Path.{refl}
@@ -38,13 +38,11 @@ returns c =
     let after-h = to-h (after-write-read .before) in
     let after-head-of = after-h .before .before in
     let start = to-start (unfold-from-head-of after-head-of) in
-    λ u e room. (
-      refl,
-      back-written (start .args .setting .year) (now (start .args .s)) (now (start .args .table)) (now (start .args .elements))
-          (now (start .args .bytes)) _ _ _ _ (unfold-from-head-of after-head-of .«unfold» .ensures) _ (to-z after-head-of .z .given .1) _
-          (after-head-of .head-of .ensures) _ (after-h .h .given .1) (to-bytes (unfold-from-head-of after-head-of) .bytes .ensures) (now (start .args .out)) _ _
-          room (after-write-read .write-read .ensures) .1,
-    )
+    λ u e room. let back = back-written (start .args .setting .year) (now (start .args .s)) (now (start .args .table)) (now (start .args .elements))
+    (now (start .args .bytes)) _ _ _ _ (unfold-from-head-of after-head-of .«unfold» .ensures) _ (to-z after-head-of .z .given .1) _
+    (after-head-of .head-of .ensures) _ (after-h .h .given .1) (to-bytes (unfold-from-head-of after-head-of) .bytes .ensures) (now (start .args .out)) _ _ room
+    (after-write-read .write-read .ensures) u e in
+    (refl, back .0, back .1)
 
 returns-2 : tie.Need-returns-2
 returns-2 c =

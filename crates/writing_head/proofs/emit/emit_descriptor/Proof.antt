@@ -22,7 +22,7 @@ returns c =
     let a = first (now (start .args .out)) 400 (bytes 4 0x00544144) 4 _ refl (after-put-u32 .put-u32 .ensures) in
     let b = next a (bytes 4 52) 4 _ refl (after-put-u322 .put-u322 .ensures) in
     let d = next b (padded Descriptor.designation (now (start .args .designation2))) 32 _
-    (padded-length (now (start .args .designation2)) 32 (start .pre .0)) (after-put-text .put-text .ensures) in
+    (padded-length Descriptor.designation (now (start .args .designation2)) (start .pre .0)) (after-put-text .put-text .ensures) in
     let e = next d (bytes 4 (start .args .count)) 4 _ refl (after-put-u323 .put-u323 .ensures) in
     let f = next e (now (start .args .carried)) 4 _ (start .pre .1)
     (rw (whole (now (start .args .carried)) 4 (start .pre .1)) at (after-put-bytes .put-bytes .ensures)) in

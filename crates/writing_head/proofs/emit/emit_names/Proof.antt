@@ -17,9 +17,9 @@ returns c =
     let after-put-text = after-put-u32 .before .before .before .before in
     let start = after-put-text .before .before .before .before .before .before in
     let a = first (now (start .args .out)) 28 (padded Passport.designation (now (start .args .designation))) 32 _
-    (padded-length (now (start .args .designation)) 32 (start .pre .0)) (after-put-text .put-text .ensures) in
+    (padded-length Passport.designation (now (start .args .designation)) (start .pre .0)) (after-put-text .put-text .ensures) in
     let b = next a (bytes 4 (start .args .scale)) 4 _ refl (after-put-u32 .put-u32 .ensures) in
-    let d = next b (padded Passport.title (now (start .args .title))) 32 _ (padded-length (now (start .args .title)) 32 (start .pre .1))
+    let d = next b (padded Passport.title (now (start .args .title))) 32 _ (padded-length Passport.title (now (start .args .title)) (start .pre .1))
     (after-put-text2 .put-text2 .ensures) in
     next d (now (start .args .rest)) 304 _ (start .pre .2)
     (rw (whole (now (start .args .rest)) 304 (start .pre .2)) at (after-put-bytes .put-bytes .ensures)) .is

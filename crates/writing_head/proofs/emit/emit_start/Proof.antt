@@ -21,7 +21,7 @@ returns c =
     let b = next a (bytes 4 400) 4 _ refl (after-put-u322 .put-u322 .ensures) in
     let d = next b (bytes 4 0x00040000) 4 _ refl (after-put-u323 .put-u323 .ensures) in
     let e = next d (bytes 4 0) 4 _ refl (after-put-u324 .put-u324 .ensures) in
-    next e (padded Passport.date (now (start .args .date))) 12 _ (padded-length (now (start .args .date)) 12 (start .pre .0))
+    next e (padded Passport.date (now (start .args .date))) 12 _ (padded-length Passport.date (now (start .args .date)) (start .pre .0))
     (after-put-text .put-text .ensures) .is
 
 pub emit-start-spec : {M : Type 1} → statement M
