@@ -123,13 +123,14 @@ module _ (y : ℕ) (s : List ℕ) (bs : Bytes s) (z : Sizes) (c : Checks y s (Ch
       let found : Answer Sheet → Found = λ x. foundOf (andThen x (λ t. recordOf start (t .records) number)) in
       b ∙ ap found alike ∙ blind found (λ t. refl) (reading v s) ∙ sym a
 
-  -- The index that `build` makes, and what `select` picks from the sheet, are the same, and so are the slices.
+  -- two calls that give the same, into slices that held the same
   given-alike : {w x : Answer (List ℕ)} → x ≡ w → (o out new : List ℕ) (r q : Written) → Gives w o out r → Gives x o new q → (q ≡ r) × (new ≡ out)
   given-alike e o out new r q a b = (
     b .0 ∙ ap (λ k. writtenOf (roomed (length o) k)) e ∙ sym (a .0),
     b .1 ∙ ap (λ k. lent theGiven (roomed (length o) k) o) e ∙ sym (a .1),
   )
 
+  -- The index that `build` makes, and what `select` picks from the sheet, are the same, and so are the slices.
   pub cleared-index : (o out new : List ℕ) (r q : Written) → Gives (indexOf v s) o out r → Gives (indexOf v (cleared s)) o new q → (q ≡ r) × (new ≡ out)
   unfolding indexOf
   cleared-index =

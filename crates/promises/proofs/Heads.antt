@@ -31,7 +31,7 @@ unfolding checkedOf
 seen-read y s u e = seen y s (sizesOf u) (Check.Accepted (sizesOf u)) (sym (ap checkedOf e)) refl
 
 -- its head and its tails stand in it
-pub read-as : (y : ℕ) (s : List ℕ) (u : Sheet) → reading y s ≡ given u → outcome (sheetWalk s) ≡ ends u
+read-as : (y : ℕ) (s : List ℕ) (u : Sheet) → reading y s ≡ given u → outcome (sheetWalk s) ≡ ends u
 read-as y s u e =
     let k = seen-read y s u e in
     subst (λ v. outcome (sheetWalk s) ≡ ends v) (given-inj (sym (k .is) ∙ e)) (k .read)

@@ -30,13 +30,6 @@ headBy s a =
     headOf (textBy Passport.date (a .date) s) (textBy Passport.designation (a .designation) s) (a .scale) (textBy Passport.title (a .title) s)
     (bytesIn Passport.rest s) (textBy Descriptor.designation (a .designation2) s) (bytesIn Descriptor.carried s)
 
--- `head_of` says that all four text fields are clean
-pub record SaysClean (a : HeadAt) : Type 0 where
-  pub date : a .«date_clean» ≡ true
-  pub designation : a .«designation_clean» ≡ true
-  pub title : a .«title_clean» ≡ true
-  pub designation2 : a .«designation2_clean» ≡ true
-
 -- all of that stands in the sheet
 abbrev pub HeadWithin : List ℕ → HeadAt → Type 0
 HeadWithin s a =
@@ -45,6 +38,13 @@ HeadWithin s a =
     × (Passport.designation .place + a .designation ≤ length s)
     × (Passport.title .place + a .title ≤ length s)
     × (Descriptor.designation .place + a .designation2 ≤ length s)
+
+-- `head_of` says that all four text fields are clean
+pub record SaysClean (a : HeadAt) : Type 0 where
+  pub date : a .«date_clean» ≡ true
+  pub designation : a .«designation_clean» ≡ true
+  pub title : a .«title_clean» ≡ true
+  pub designation2 : a .«designation2_clean» ≡ true
 
 -- The table as a caller passes it on: of each slice as much as `unfold` says it wrote.
 abbrev pub tableBy : Sizes → (numbers elements bytes : List ℕ) → Table

@@ -63,6 +63,7 @@ pub record FineTail (f : Field) (t tail : List ℕ) : Type 0 where
 abbrev pub cleanTail : Field → List ℕ → List ℕ
 cleanTail f t = replicate (f .width - (length t + 1)) 0
 
+-- a text as the writer stores it
 abbrev pub padded : Field → List ℕ → List ℕ
 padded f t = tailed t (cleanTail f t)
 
