@@ -56,7 +56,7 @@ static sxf_written written(uint32_t year, const uint64_t *numbers, size_t out_le
                      sheet, out_len);
 }
 
-/* The sum of a sheet: all its bytes, but the four at 12. */
+/* The sum of a sheet: all its bytes, but the four at 12. The sheets here are too short for it to pass 32 bits. */
 static uint64_t sum_of(const uint8_t *s, size_t n)
 {
     uint64_t sum = 0;
@@ -289,13 +289,21 @@ static void texts(void)
     SAME(left, 9, 9, 9, 9);
 }
 
+/* Where a block of an index has the two bytes of its kind, and its sum. */
+enum {
+    KIND_AT = 508,
+    SUM_AT = 510
+};
+
 /* The index of the sheet's one record, and of none. What is lent is longer: what is past the length is as it was. */
 static void one_block(void)
 {
     static uint8_t index[SXF_BLOCK_SIZE + 1];
     uint64_t entry[SXF_ENTRY_WIDTH + 1] = { 99, 99, 99, 99 }, pick[SXF_PICK_WIDTH + 1] = { 99, 99, 99, 99 }, none[1] = { 99 };
-    /* its number, one entry: code 9, place 452, localisation 2; then zeros, the sum of the bytes before it, and what was there */
-    static const uint8_t block[SXF_BLOCK_SIZE + 1] = { 0, 0, 1, 0, 9, 0, 0, 0, 0xC4, 0x01, 0, 2, [510] = 0xD1, [SXF_BLOCK_SIZE] = 99 };
+    /* its number, one entry: code 9, place 452, localisation 2; then zeros, its kind, the sum of the bytes before it, and what was there */
+    static const uint8_t block[SXF_BLOCK_SIZE + 1] = {
+        0, 0, 1, 0, 9, 0, 0, 0, 0xC4, 0x01, 0, 0, 2, [KIND_AT] = 1, [SUM_AT] = 0xD2, [SXF_BLOCK_SIZE] = 99,
+    };
     memset(index, 99, sizeof index);
     sxf_written built = sxf_index_build(sheet, LENGTH, 2017, index, sizeof index);
     SAME(built, 0, 0, 0, SXF_BLOCK_SIZE);
@@ -337,7 +345,7 @@ static sxf_written written_many(void)
     static uint64_t rows[MANY][SXF_ROW_WIDTH + SXF_PART_WIDTH];
     for (size_t i = 0; i < MANY; i++) {
         rows[i][SXF_ROW_CODE] = i == MANY - 1 ? LAST_CODE : i % 3;
-        rows[i][SXF_ROW_REFERENCE] = i % 2;
+        rows[i][SXF_ROW_REFERENCE] = (i + 1) % 2;
         rows[i][SXF_ROW_PARTS] = 1;
     }
     return sxf_write(2017, bytes, 0, bytes, 0, 5, bytes, 0, rest, bytes, 0, carried, rows[0], MANY * (SXF_ROW_WIDTH + SXF_PART_WIDTH), elements, 0,
@@ -352,8 +360,9 @@ static void two_blocks(void)
     uint64_t pick[SXF_PICK_WIDTH] = { 99, 99, 99 };
     sxf_written made = written_many();
     SAME(made, 0, 0, 0, MANY_LENGTH);
-    uint64_t lengths[] = { SXF_INDEX_LENGTH(0), SXF_INDEX_LENGTH(1), SXF_INDEX_LENGTH(SXF_BLOCK_FULL), SXF_INDEX_LENGTH(MANY) };
-    SAME(lengths, 0, SXF_BLOCK_SIZE, SXF_BLOCK_SIZE, BLOCKS);
+    uint64_t lengths[] = { SXF_INDEX_LENGTH(0), SXF_INDEX_LENGTH(1), SXF_INDEX_LENGTH(SXF_BLOCK_FULL), SXF_INDEX_LENGTH(MANY),
+                           SXF_INDEX_LENGTH(SXF_LIMIT / 32) };
+    SAME(lengths, 0, SXF_BLOCK_SIZE, SXF_BLOCK_SIZE, BLOCKS, 19174400);
     memset(index, 99, sizeof index);
     sxf_written small = sxf_index_build(many, MANY_LENGTH, 2017, index, BLOCKS - 1);
     sxf_written no_year = sxf_index_build(many, MANY_LENGTH, 2018, index, BLOCKS), cut = sxf_index_build(many, MANY_LENGTH - 1, 2017, index, 0);
@@ -394,6 +403,52 @@ static void two_blocks(void)
     SAME(unselected, SXF_BAD_BLOCK, SXF_BLOCK_SIZE, 0, 0);
 }
 
+/* How many entries a full block of an old index file has, and how many bytes an entry. */
+enum {
+    OLD_FULL = 63,
+    OLD_ENTRY = 8
+};
+
+/* Puts into a block its number, its count of entries, the first byte of its kind, and its sum. */
+static void put_block(uint8_t *block, uint8_t number, uint8_t count, uint8_t kind)
+{
+    uint64_t sum = 0;
+    block[0] = number;
+    block[2] = count;
+    block[KIND_AT] = kind;
+    for (size_t i = 0; i < SUM_AT; i++)
+        sum += block[i];
+    block[SUM_AT] = (uint8_t)sum;
+    block[SUM_AT + 1] = (uint8_t)(sum >> 8);
+}
+
+/* An old index file is read: a full block, whose last entry has code 7, the place 0x030201 and localisation 1, and a block of one entry. A later block
+   of the new kind is bad, and a first one of no kind. */
+static void old_blocks(void)
+{
+    static uint8_t index[BLOCKS];
+    static uint64_t entries[(OLD_FULL + 1) * SXF_ENTRY_WIDTH];
+    static const uint8_t last[OLD_ENTRY] = { LAST_CODE, 0, 0, 0, 0x01, 0x02, 0x03, 1 };
+    uint64_t pick[SXF_PICK_WIDTH];
+    memcpy(index + 4 + OLD_ENTRY * (OLD_FULL - 1), last, OLD_ENTRY);
+    put_block(index, 0, OLD_FULL, 0);
+    put_block(index + SXF_BLOCK_SIZE, 1, 1, 0);
+    sxf_index checked = sxf_index_check(index, BLOCKS);
+    SAME(checked, 0, 0, 0, OLD_FULL + 1, 2);
+    sxf_written read = sxf_index_read(index, BLOCKS, entries, (OLD_FULL + 1) * SXF_ENTRY_WIDTH);
+    SAME(read, 0, 0, 0, (OLD_FULL + 1) * SXF_ENTRY_WIDTH);
+    same("old entry", entries + (OLD_FULL - 1) * SXF_ENTRY_WIDTH, (const uint64_t[]){ LAST_CODE, 0x030201, 1 }, SXF_ENTRY_WIDTH);
+    sxf_written selected = sxf_index_select(index, BLOCKS, LAST_CODE, pick, SXF_PICK_WIDTH);
+    SAME(selected, 0, 0, 0, SXF_PICK_WIDTH);
+    SAME(pick, OLD_FULL - 1, 0x030201, 1);
+    put_block(index + SXF_BLOCK_SIZE, 1, 1, 1);
+    sxf_index mixed = sxf_index_check(index, BLOCKS);
+    SAME(mixed, SXF_BAD_BLOCK, SXF_BLOCK_SIZE, 0, 0, 0);
+    put_block(index, 0, OLD_FULL, 2);
+    sxf_index no_kind = sxf_index_check(index, BLOCKS);
+    SAME(no_kind, SXF_BAD_BLOCK, 0, 0, 0, 0);
+}
+
 /* Places that sxf.h does not name: the descriptor's identifier, its count of records, and a total length, counted from its record's start. */
 enum {
     DESCRIPTOR_AT = 400,
@@ -430,7 +485,7 @@ static void hops(void)
 /* What hopping refuses: first of the sheet, then of the headers, in their order, before their codes are looked at. */
 static void refused_hops(void)
 {
-    static const uint8_t over[SXF_LIMIT + 1];
+    static uint8_t over[SXF_LIMIT + 1];
     sxf_hop too_long = sxf_first_with(over, SXF_LIMIT + 1, 0), other = sxf_frame_of(over, SXF_LIMIT);
     sxf_hop too_short = sxf_first_with(many, SXF_RECORDS_AT - 1, 0), no_bytes = sxf_frame_of(many, 0);
     SAME(too_long, SXF_TOO_LONG, 0, 0, 0, 0, 0, 0, 0);
@@ -480,6 +535,7 @@ int main(void)
     texts();
     one_block();
     two_blocks();
+    old_blocks();
     hops();
     refused_hops();
     printf("calls: %d answers, %d not as stated\n", answers, wrong);

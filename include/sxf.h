@@ -33,16 +33,18 @@
  * width would be misread, and an answer by value may be longer than the program thinks. So say what the program was written for, and ask the
  * archive once:
  *
- *     #if SXF_VERSION != 3
- *     #error "written for version 3 of sxf.h"
+ *     #if SXF_VERSION != 4
+ *     #error "written for version 4 of sxf.h"
  *     #endif
  *     if (sxf_version() != SXF_VERSION) ..
  *
+ * 4: a sheet may have 67,108,864 bytes, where it had 16,777,216 at most, and a block of a new code index has 56 entries, where it had 63. A
+ * program that was built with an earlier SXF_LIMIT or SXF_INDEX_LENGTH lends too little for such a sheet or index, and is answered SXF_ROOM.
  * 3: sxf_head has four fields more, which tell whether the tails of the text fields are clean, and a sheet with a tail that is not is read.
  * 2: a record's row has nine numbers, and sxf_record the field mark. Headers of rows of eight numbers have no version, and their archives
  * no sxf_version.
  */
-#define SXF_VERSION 3
+#define SXF_VERSION 4
 
 #ifdef __cplusplus
 extern "C" {
@@ -55,7 +57,7 @@ enum {
     SXF_SHORT = 2,        /* the sheet, or what is left of it for a record, is too short */
     SXF_NOT_SXF = 3,      /* an identifier differs */
     SXF_EDITION = 4,      /* a fixed length or the edition differs */
-    SXF_SUM = 5,          /* the sum differs; place 12 */
+    SXF_SUM = 5,          /* the sum, of which the low 32 bits are kept, differs; place 12 */
     SXF_TEXT = 6,         /* reading: a text field has no zero at all; sxf_write: a text is too long for its field or has a zero in it; or a
                              closing zero is missing */
     SXF_RESERVED = 7,     /* a value is not allowed at a flag, code or reserved field */
@@ -70,7 +72,7 @@ enum {
     SXF_ASK = 16,         /* the year is none of the nine, the record's number is not below the count, a point has no such dimension, or
                              there is no such coding; place 0 */
     SXF_NO_CHARACTER = 17, /* a byte has no character, or a 16-bit unit has no byte, in the coding; the place is its index */
-    SXF_BAD_BLOCK = 18     /* a block of a code index has a wrong length, number, count, filling or sum; the place is the block's first byte */
+    SXF_BAD_BLOCK = 18     /* a block of a code index has a wrong length, number, count, kind, filling or sum; the place is the block's first byte */
 };
 
 /* Places in a sheet. Each of the four text fields starts at its place and has SXF_DATE_SIZE bytes or, the other three, SXF_TEXT_SIZE: its text, of the
@@ -89,14 +91,15 @@ enum {
     SXF_TEXT_SIZE = 32,
     SXF_REST_SIZE = 304,
     SXF_CARRIED_SIZE = 4,
-    SXF_LIMIT = 16777216  /* bytes of a sheet at most */
+    SXF_LIMIT = 67108864  /* bytes of a sheet at most */
 };
 
 /* The earlier names of the four carried bytes, for programs that have them. */
 #define SXF_FLAGS_AT SXF_CARRIED_AT
 #define SXF_FLAGS_SIZE SXF_CARRIED_SIZE
 
-/* What a sheet has: its sum, its count of records, and the lengths of the three parts of its record table. */
+/* What a sheet has: the low 32 bits of its sum, its count of records, and the lengths of the three parts of its record table. The sum is that of all
+   its bytes, with the four at 12 counted as zero. */
 typedef struct {
     uint64_t number, place, year, sum, records, numbers, elements, bytes;
 } sxf_checked;
@@ -293,21 +296,26 @@ sxf_written sxf_from_utf16(uint32_t coding, const uint16_t *units, size_t units_
 /*
  * A code index: a file beside the sheet that has, for each record in order, its class code, its place in the sheet (the byte at which it
  * starts) and its localisation. It is made of blocks of SXF_BLOCK_SIZE bytes: the block's number, from 0 (2 bytes), its count of entries (2),
- * 63 entries of code (4), place (3) and localisation (1), those that are not used zero, two zero bytes, and the sum of the 510 bytes before it
- * modulo 65536 (2), each lowest byte first. Every block but the last has SXF_BLOCK_FULL entries, the last has 1 at least, and a sheet without
- * records has no block.
+ * SXF_BLOCK_FULL entries of code (4), place (4) and localisation (1), those that are not used zero, a byte 1 and a byte 0, and the sum of the 510
+ * bytes before it modulo 65536 (2), each lowest byte first. Every block but the last has SXF_BLOCK_FULL entries, the last has 1 at least, and a sheet
+ * without records has no block.
+ *
+ * Old index files are read, and never written. Up to version 3 a block had 63 entries of code (4), place (3) and localisation (1), and two zero
+ * bytes before its sum. sxf_index_check, sxf_index_read and sxf_index_select take either kind and answer alike; sxf_index_build makes the new one, so
+ * build an index again to have it in the new kind. A file has one kind, which the two bytes before the sum of its first block say: 0 and 0 is old, 1
+ * and 0 is new, and with any other two that block is SXF_BAD_BLOCK. A later block of the other kind is SXF_BAD_BLOCK at that block.
  *
  * An index does not say which sheet it belongs to, and no call can tell. The index of another sheet, or of this one before it was changed,
  * gives that sheet's records; and one that is cut at the end of a full block is an index too. Compare sxf_index_check's entries with
- * sxf_check's records; to be sure, build it again and compare the bytes.
+ * sxf_check's records; to be sure, build it again and compare the bytes, or for an old index file what sxf_index_read gives of both.
  */
 enum {
     SXF_BLOCK_SIZE = 512,
-    SXF_BLOCK_FULL = 63
+    SXF_BLOCK_FULL = 56
 };
 
-/* How long the index of so many records is, as a uint64_t; for counts below 2^32. SXF_INDEX_LENGTH(SXF_LIMIT / 32), 4,261,376 bytes, is always
-   enough. */
+/* How long the index of so many records is when it is built, as a uint64_t; for counts below 2^32. SXF_INDEX_LENGTH(SXF_LIMIT / 32), 19,174,400
+   bytes, is always enough. */
 #define SXF_INDEX_LENGTH(records) (((uint64_t)(records) + (SXF_BLOCK_FULL - 1)) / SXF_BLOCK_FULL * SXF_BLOCK_SIZE)
 
 /* The three numbers that sxf_index_read gives for each entry; those that sxf_index_select and sxf_select give for each hit. */
@@ -331,7 +339,7 @@ typedef struct {
     uint64_t number, place, year, entries, blocks;
 } sxf_index;
 
-/* Checks an index. The first bad block is SXF_BAD_BLOCK. A piece of a block at the end is a bad block, and the block before it is then not the
+/* Checks an index, of either kind. The first bad block is SXF_BAD_BLOCK. A piece of a block at the end is a bad block, and the block before it is then not the
    last, and so bad itself unless it is full. A block whose number does not fit two bytes is bad. What entries hold is not judged. */
 sxf_index sxf_index_check(const uint8_t *index, size_t index_len);
 

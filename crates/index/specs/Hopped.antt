@@ -18,7 +18,7 @@ unfoldable pub hopped : ℕ → ℕ → List ℕ → List Entry
 hopped zero place s = []
 hopped (suc n) place s = entryOf s place ∷ hopped n (place + numberIn Header.total (drop place s)) s
 
--- where the record after them starts; shut, so that 63 hops are not computed
+-- where the record after them starts; shut, so that 56 hops are not computed
 unfoldable pub placeAfter : ℕ → ℕ → List ℕ → ℕ
 placeAfter zero place s = place
 placeAfter (suc n) place s = placeAfter n (place + numberIn Header.total (drop place s)) s

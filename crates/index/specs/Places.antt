@@ -6,20 +6,21 @@ use Rattle.layout.specs.Fields.Block
 use Rattle.layout.specs.Fields.Entry as Field
 use Rattle.layout.specs.Index.Blocks.{begun}
 use Rattle.layout.specs.Index.Reading.{entryIn}
+use Rattle.layout.specs.declared.BlockKind.{BlockKind}
 use Rattle.layout.specs.declared.Entry.{Entry}
 
--- where entry i stands
-abbrev pub placeOf : ℕ → ℕ
-placeOf i = Block.size * (i / Block.full) + (Block.entries .place + Field.size * (i % Block.full))
+-- where entry i stands in blocks of a kind
+abbrev pub placeOf : BlockKind → ℕ → ℕ
+placeOf kind i = Block.size * (i / Block.full kind) + (Block.entries .place + Field.size kind * (i % Block.full kind))
 
-abbrev pub entryAt : List ℕ → ℕ → Entry
-entryAt xs i = entryIn (drop (placeOf i) xs)
+abbrev pub entryAt : BlockKind → List ℕ → ℕ → Entry
+entryAt kind xs i = entryIn kind (drop (placeOf kind i) xs)
 
 -- n entries from entry i on
-unfoldable pub entriesAt : List ℕ → ℕ → ℕ → List Entry
-entriesAt xs i zero = []
-entriesAt xs i (suc n) = entryAt xs i ∷ entriesAt xs (suc i) n
+unfoldable pub entriesAt : BlockKind → List ℕ → ℕ → ℕ → List Entry
+entriesAt kind xs i zero = []
+entriesAt kind xs i (suc n) = entryAt kind xs i ∷ entriesAt kind xs (suc i) n
 
 -- the blocks of n entries are within the bytes, and n is small
-abbrev pub Holds : ℕ → List ℕ → Type 0
-Holds n xs = (Block.size * begun Block.full n ≤ length xs) × (n < 2 ^ 32)
+abbrev pub Holds : BlockKind → ℕ → List ℕ → Type 0
+Holds kind n xs = (Block.size * begun (Block.full kind) n ≤ length xs) × (n < 2 ^ 32)

@@ -8,13 +8,15 @@ ghost use Rattle.index.specs.Places.{entriesAt, Holds};
 ghost use Rattle.layout.specs.Answers.Calls.{inRoom, roomed, lent};
 ghost use Rattle.layout.specs.Answers.Enums.{writtenOf, indexedOf};
 ghost use Rattle.layout.specs.Answers.Lent.{theGiven};
-ghost use Rattle.layout.specs.Index.Reading.{entriesIn};
+ghost use Rattle.layout.specs.Index.Reading.{fileKind, entriesIn};
 ghost use Rattle.layout.specs.Index.Selecting.{each, pickEntry, entryRow, selected, entryRows};
 use crate::blocks::good_block;
 use crate::entries::entry_at;
 use crate::entries::place_of;
 use crate::hits;
+use crate::kinds::file_kind;
 use fields::numbers;
+use layout::BlockKind;
 use layout::Entry;
 use layout::IndexSizes;
 use layout::Indexed;
@@ -25,13 +27,14 @@ use layout::refusals::BAD_BLOCK;
 
 // How many entries and blocks an index has, or which block is the first that is bad.
 pub fn check(index: &[u8]) -> Indexed
-    ensures { λ r. ⌜ r ≡ indexedOf (entriesIn (now (index .entry))) ⌝ }
+    ensures { λ r. ⌜ r ≡ indexedOf (fileKind (now (index .entry))) (entriesIn (now (index .entry))) ⌝ }
 {
+    let kind = file_kind(index);
     let mut at: usize = 0;
     let mut blocks: usize = 0;
     let mut entries: usize = 0;
     while at < index.len() {
-        if !good_block(index, at, blocks) {
+        if !good_block(index, kind, at, blocks) {
             return Indexed::Refused(Refusal {
                 number: BAD_BLOCK,
                 place: at,
@@ -46,56 +49,56 @@ pub fn check(index: &[u8]) -> Indexed
 }
 
 // How many numbers the hits among so many entries are.
-fn count_hits(index: &[u8], count: usize, code: u32) -> usize
-    requires { ⌜ Holds count (now index) ⌝ }
-    ensures { λ r. ⌜ r ≡ length (each (pickEntry code) 0 (entriesAt (now (index .entry)) 0 count)) ⌝ }
+fn count_hits(index: &[u8], kind: BlockKind, count: usize, code: u32) -> usize
+    requires { ⌜ Holds kind count (now index) ⌝ }
+    ensures { λ r. ⌜ r ≡ length (each (pickEntry code) 0 (entriesAt kind (now (index .entry)) 0 count)) ⌝ }
 {
     let mut n: usize = 0;
     let mut i: usize = 0;
     while i < count {
-        n += hits::hit_size(entry_at(index, place_of(i)), i, code);
+        n += hits::hit_size(entry_at(index, kind, place_of(kind, i)), i, code);
         i += 1;
     }
     n
 }
 
 // Whether they fit a lent slice of so many numbers. Where three for each of the entries fit, they need not be counted.
-fn have_room(index: &[u8], count: usize, code: u32, room: usize) -> bool
-    requires { ⌜ Holds count (now index) ⌝ }
-    ensures { λ r. ⌜ r ≡ leb (length (each (pickEntry code) 0 (entriesAt (now (index .entry)) 0 count))) room ⌝ }
+fn have_room(index: &[u8], kind: BlockKind, count: usize, code: u32, room: usize) -> bool
+    requires { ⌜ Holds kind count (now index) ⌝ }
+    ensures { λ r. ⌜ r ≡ leb (length (each (pickEntry code) 0 (entriesAt kind (now (index .entry)) 0 count))) room ⌝ }
 {
     if block::ROW_WIDTH * count <= room {
         return true;
     }
-    count_hits(index, count, code) <= room
+    count_hits(index, kind, count, code) <= room
 }
 
 // Puts them, and tells how many numbers they are.
-fn put_hits(index: &[u8], count: usize, code: u32, picks: &mut [u64]) -> usize
-    requires { ⌜ Holds count (now index) × (length (each (pickEntry code) 0 (entriesAt (now index) 0 count)) ≤ length (now picks)) ⌝ }
-    ensures counted { λ r. ⌜ r ≡ length (each (pickEntry code) 0 (entriesAt (now (index .entry)) 0 count)) ⌝ }
-    ensures written { λ _. ⌜ now (picks .exit) ≡ sets (now (picks .entry)) 0 (each (pickEntry code) 0 (entriesAt (now (index .entry)) 0 count)) ⌝ }
+fn put_hits(index: &[u8], kind: BlockKind, count: usize, code: u32, picks: &mut [u64]) -> usize
+    requires { ⌜ Holds kind count (now index) × (length (each (pickEntry code) 0 (entriesAt kind (now index) 0 count)) ≤ length (now picks)) ⌝ }
+    ensures counted { λ r. ⌜ r ≡ length (each (pickEntry code) 0 (entriesAt kind (now (index .entry)) 0 count)) ⌝ }
+    ensures written { λ _. ⌜ now (picks .exit) ≡ sets (now (picks .entry)) 0 (each (pickEntry code) 0 (entriesAt kind (now (index .entry)) 0 count)) ⌝ }
 {
     let mut w: usize = 0;
     let mut i: usize = 0;
     while i < count {
-        w = hits::put_hit(entry_at(index, place_of(i)), i, code, picks, w);
+        w = hits::put_hit(entry_at(index, kind, place_of(kind, i)), i, code, picks, w);
         i += 1;
     }
     w
 }
 
 // The hits among so many entries, if there is room.
-fn select_in(index: &[u8], count: usize, code: u32, picks: &mut [u64]) -> Written
-    requires { ⌜ Holds count (now index) ⌝ }
-    ensures answers { λ r. ⌜ r ≡ writtenOf (inRoom (length (now (picks .entry))) (each (pickEntry code) 0 (entriesAt (now (index .entry)) 0 count))) ⌝ }
+fn select_in(index: &[u8], kind: BlockKind, count: usize, code: u32, picks: &mut [u64]) -> Written
+    requires { ⌜ Holds kind count (now index) ⌝ }
+    ensures answers { λ r. ⌜ r ≡ writtenOf (inRoom (length (now (picks .entry))) (each (pickEntry code) 0 (entriesAt kind (now (index .entry)) 0 count))) ⌝ }
     ensures written { λ _. ⌜ now (picks .exit) ≡ lent theGiven (inRoom (length (now (picks .entry)))
-        (each (pickEntry code) 0 (entriesAt (now (index .entry)) 0 count))) (now (picks .entry)) ⌝ }
+        (each (pickEntry code) 0 (entriesAt kind (now (index .entry)) 0 count))) (now (picks .entry)) ⌝ }
 {
-    if !have_room(index, count, code, picks.len()) {
+    if !have_room(index, kind, count, code, picks.len()) {
         return hits::no_room();
     }
-    Written::Length(put_hits(index, count, code, picks))
+    Written::Length(put_hits(index, kind, count, code, picks))
 }
 
 // Three numbers for each record of a code: its number, place and localisation. The answer is how many numbers are written.
@@ -105,7 +108,7 @@ pub fn select(index: &[u8], code: u32, picks: &mut [u64]) -> Written
         (now (picks .entry)) ⌝ }
 {
     match check(index) {
-        Indexed::Accepted(sizes) => select_in(index, sizes.entries, code, picks),
+        Indexed::Accepted(sizes) => select_in(index, file_kind(index), sizes.entries, code, picks),
         Indexed::Refused(r) => Written::Refused(r),
     }
 }
@@ -123,29 +126,29 @@ fn put_entry(e: Entry, entries: &mut [u64], w: usize)
     );
 }
 
-fn put_entries(index: &[u8], count: usize, entries: &mut [u64])
-    requires { ⌜ Holds count (now index) × (3 * count ≤ length (now entries)) ⌝ }
-    ensures { λ _. ⌜ now (entries .exit) ≡ sets (now (entries .entry)) 0 (each entryRow 0 (entriesAt (now (index .entry)) 0 count)) ⌝ }
+fn put_entries(index: &[u8], kind: BlockKind, count: usize, entries: &mut [u64])
+    requires { ⌜ Holds kind count (now index) × (3 * count ≤ length (now entries)) ⌝ }
+    ensures { λ _. ⌜ now (entries .exit) ≡ sets (now (entries .entry)) 0 (each entryRow 0 (entriesAt kind (now (index .entry)) 0 count)) ⌝ }
 {
     let mut w: usize = 0;
     let mut i: usize = 0;
     while i < count {
-        put_entry(entry_at(index, place_of(i)), entries, w);
+        put_entry(entry_at(index, kind, place_of(kind, i)), entries, w);
         w += block::ROW_WIDTH;
         i += 1;
     }
 }
 
-fn read_in(index: &[u8], count: usize, entries: &mut [u64]) -> Written
-    requires { ⌜ Holds count (now index) ⌝ }
-    ensures answers { λ r. ⌜ r ≡ writtenOf (inRoom (length (now (entries .entry))) (each entryRow 0 (entriesAt (now (index .entry)) 0 count))) ⌝ }
+fn read_in(index: &[u8], kind: BlockKind, count: usize, entries: &mut [u64]) -> Written
+    requires { ⌜ Holds kind count (now index) ⌝ }
+    ensures answers { λ r. ⌜ r ≡ writtenOf (inRoom (length (now (entries .entry))) (each entryRow 0 (entriesAt kind (now (index .entry)) 0 count))) ⌝ }
     ensures written { λ _. ⌜ now (entries .exit) ≡ lent theGiven (inRoom (length (now (entries .entry)))
-        (each entryRow 0 (entriesAt (now (index .entry)) 0 count))) (now (entries .entry)) ⌝ }
+        (each entryRow 0 (entriesAt kind (now (index .entry)) 0 count))) (now (entries .entry)) ⌝ }
 {
     if entries.len() < block::ROW_WIDTH * count {
         return hits::no_room();
     }
-    put_entries(index, count, entries);
+    put_entries(index, kind, count, entries);
     Written::Length(block::ROW_WIDTH * count)
 }
 
@@ -156,7 +159,7 @@ pub fn read(index: &[u8], entries: &mut [u64]) -> Written
         (now (entries .entry)) ⌝ }
 {
     match check(index) {
-        Indexed::Accepted(sizes) => read_in(index, sizes.entries, entries),
+        Indexed::Accepted(sizes) => read_in(index, file_kind(index), sizes.entries, entries),
         Indexed::Refused(r) => Written::Refused(r),
     }
 }

@@ -1,4 +1,5 @@
-// A code index beside the sheet: built from a sheet, read back, and asked for the records of a class code. (02, request 3)
+// A code index beside the sheet: built from a sheet, read back, and asked for the records of a class code. (02, requests 3
+// and 7)
 //
 // Relied on: the definitions of `layout` (specs/Index) and their laws, the reader (`reading`), and the leaf code of `fields`.
 //
@@ -12,4 +13,5 @@ mod entries;
 pub mod files;
 mod hits;
 mod hops;
+mod kinds;
 pub mod sheets;

@@ -1,6 +1,6 @@
 // From a sheet: its index, or the records of a class code without one. The sheet's own refusals come first, ROOM last.
 ghost use mathlib.Core.Path.{_≡_};
-ghost use Prim.Native.Nat.{_^_, _≤_};
+ghost use Prim.Native.Nat.{_^_, _≤_, _<_};
 ghost use lib.Dec.{leb};
 ghost use lib.ListN.{length};
 ghost use lib.Seq.{sets};
@@ -12,6 +12,7 @@ ghost use Rattle.layout.specs.Fields.Block;
 ghost use Rattle.layout.specs.Index.Blocks.{encodeIndex, begun};
 ghost use Rattle.layout.specs.Index.Selecting.{each, pickEntry, indexOf, picked};
 ghost use Rattle.layout.specs.Reading.Sheets.{start};
+ghost use Rattle.layout.specs.declared.BlockKind.the-variants.{New};
 ghost use Rattle.reading.specs.Found.{Hops};
 use crate::building::put_blocks;
 use crate::hits;
@@ -26,9 +27,9 @@ use reading::sheets::check_by_year;
 
 // The index of an accepted sheet of so many records, if there is room.
 fn build_in(s: &[u8], count: usize, index: &mut [u8]) -> Written
-    requires { ⌜ Hops count start (now s) × (begun Block.full count ≤ 256 ^ Block.number .width) ⌝ }
-    ensures answers { λ r. ⌜ r ≡ writtenOf (inRoom (length (now (index .entry))) (encodeIndex (hopped count start (now (s .entry))))) ⌝ }
-    ensures written { λ _. ⌜ now (index .exit) ≡ lent theGiven (inRoom (length (now (index .entry))) (encodeIndex (hopped count start (now (s .entry)))))
+    requires { ⌜ Hops count start (now s) × (begun (Block.full New) count ≤ 256 ^ Block.number .width) ⌝ }
+    ensures answers { λ r. ⌜ r ≡ writtenOf (inRoom (length (now (index .entry))) (encodeIndex New (hopped count start (now (s .entry))))) ⌝ }
+    ensures written { λ _. ⌜ now (index .exit) ≡ lent theGiven (inRoom (length (now (index .entry))) (encodeIndex New (hopped count start (now (s .entry)))))
         (now (index .entry)) ⌝ }
 {
     let n = block::SIZE * ((count + (block::FULL - 1)) / block::FULL);
@@ -39,7 +40,7 @@ fn build_in(s: &[u8], count: usize, index: &mut [u8]) -> Written
     Written::Length(n)
 }
 
-// The code index of a sheet. The answer is how many bytes are written, 512 for each begun block of 63 records.
+// The code index of a sheet. The answer is how many bytes are written, 512 for each begun block of 56 records.
 pub fn build_by_year(s: &[u8], year: u32, index: &mut [u8]) -> Written
     ensures answers { λ r. ⌜ r ≡ writtenOf (roomed (length (now (index .entry))) (indexOf year (now (s .entry)))) ⌝ }
     ensures written { λ _. ⌜ now (index .exit) ≡ lent theGiven (roomed (length (now (index .entry))) (indexOf year (now (s .entry)))) (now (index .entry)) ⌝ }
@@ -52,7 +53,7 @@ pub fn build_by_year(s: &[u8], year: u32, index: &mut [u8]) -> Written
 
 // How many numbers the hits among so many records are.
 fn count_hits(s: &[u8], count: usize, code: u32) -> usize
-    requires { ⌜ Hops count start (now s) × (begun Block.full count ≤ 256 ^ Block.number .width) ⌝ }
+    requires { ⌜ Hops count start (now s) × (count < 2 ^ 32) ⌝ }
     ensures { λ r. ⌜ r ≡ length (each (pickEntry code) 0 (hopped count start (now (s .entry)))) ⌝ }
 {
     let mut n: usize = 0;
@@ -68,7 +69,7 @@ fn count_hits(s: &[u8], count: usize, code: u32) -> usize
 
 // Whether they fit a lent slice of so many numbers. Where three for each of the records fit, they need not be counted.
 fn have_room(s: &[u8], count: usize, code: u32, room: usize) -> bool
-    requires { ⌜ Hops count start (now s) × (begun Block.full count ≤ 256 ^ Block.number .width) ⌝ }
+    requires { ⌜ Hops count start (now s) × (count < 2 ^ 32) ⌝ }
     ensures { λ r. ⌜ r ≡ leb (length (each (pickEntry code) 0 (hopped count start (now (s .entry))))) room ⌝ }
 {
     if block::ROW_WIDTH * count <= room {
@@ -96,7 +97,7 @@ fn put_hits(s: &[u8], count: usize, code: u32, picks: &mut [u64]) -> usize
 
 // The hits among so many records, if there is room.
 fn select_in(s: &[u8], count: usize, code: u32, picks: &mut [u64]) -> Written
-    requires { ⌜ Hops count start (now s) × (begun Block.full count ≤ 256 ^ Block.number .width) ⌝ }
+    requires { ⌜ Hops count start (now s) × (count < 2 ^ 32) ⌝ }
     ensures answers { λ r. ⌜ r ≡ writtenOf (inRoom (length (now (picks .entry))) (each (pickEntry code) 0 (hopped count start (now (s .entry))))) ⌝ }
     ensures written { λ _. ⌜ now (picks .exit) ≡ lent theGiven (inRoom (length (now (picks .entry)))
         (each (pickEntry code) 0 (hopped count start (now (s .entry))))) (now (picks .entry)) ⌝ }

@@ -2,11 +2,12 @@
 use mathlib.Core.Bool.{Bool, true, false, cond}
 use mathlib.Core.List.{List, [], _∷_}
 use mathlib.Core.Path.{_≡_, refl, ap, sym, _∙_}
-use Prim.Native.Nat.{ℕ, _+_, _*_, _≤_}
+use Prim.Native.Nat.{ℕ, _+_, _*_, _^_, _≤_, _<_}
 use lib.ListN.{length}
 use native.Mathlib.Nat.{zero-mul, suc-mul, add-mul, mul-assoc, mul-comm, mul-le-mul-left}
 use native.Mathlib.Omega.{arith}
 use Rattle.layout.specs.Bytes.{All}
+use Rattle.layout.specs.Fields.{limit}
 use Rattle.layout.specs.Layout.Encode.{encode}
 use Rattle.layout.specs.Layout.Fine.{FineItem, FineLabel, FineSubobject, Fine}
 use Rattle.layout.specs.Layout.Sizes.{sumBy, itemBytes, subobjectBytes, recordBytes}
@@ -18,10 +19,10 @@ use Rattle.layout.specs.Writing.Tables.{flatten}
 use Rattle.laws.proofs.Writing.Limits.{all-near}
 use Rattle.laws.proofs.Writing.Records.{NearRecord}
 use Rattle.laws.proofs.Writing.Sizes.{sum-times, rowNumbers, rowElements, rowBytes, encode-length, flatten-sizes}
--- "a fine sheet's sum fits 32 bits" and "its length is 452 plus the records' lengths": `sum-fits` and `length-encode` stand with the
--- encoding, and are passed on here
+-- "The sum may now pass 32 bits, and only its low 32 are kept." (02, request 7): that these fit their field, that the whole has 34, and that the length
+-- is 452 plus the records' lengths stands with the encoding, and is passed on here.
 pub use Rattle.laws.proofs.Encoding.Lengths.{length-encode}
-pub use Rattle.laws.proofs.Encoding.Sums.{sum-fits}
+pub use Rattle.laws.proofs.Encoding.Sums.{sum-fits, whole-fits, whole-kept}
 
 -- sums of smaller things are smaller
 sum-le : {A : Type 0} (F : A → Type 0) (f g : A → ℕ) → ((a : A) → F a → f a ≤ g a) → (l : List A) → All F l → sumBy f l ≤ sumBy g l
@@ -132,3 +133,14 @@ bytes-bound u f =
       flatten-sizes (u .records) near .2,
       sum-over NearRecord 32 rowBytes recordBytes row-bytes (u .records) near,
     )
+
+-- So all of these fit 32 bits, as they did: "Raise it to 67,108,864 bytes" (02, request 7).
+pub all-fit : (u : Sheet) → Fine u
+    → (length (encode u) < 2 ^ 32) × (length (u .records) < 2 ^ 32) × (length (flatten (u .records) .numbers) < 2 ^ 32)
+    × (length (flatten (u .records) .elements) < 2 ^ 32) × (length (flatten (u .records) .bytes) < 2 ^ 32)
+all-fit u f =
+    let short : length (encode u) ≤ limit = f .short in
+    let numbers = numbers-bound u f in
+    let elements = elements-bound u f in
+    let pool = bytes-bound u f in
+    (omega arith, omega arith, omega arith, omega arith, omega arith)

@@ -99,7 +99,7 @@ cleared-is u f =
     let m : ℕ = sheetSum u in
     let count : ℕ = length (u .records) in
     let v : Sheet = cleanOf u in
-    let fits : FitRow columns (rowOf (u .head) (u .tails) m count) = head-fits (u .head) (u .tails) m count (f .head) (f .tails) (sum-fits u f) (f .count) in
+    let fits : FitRow columns (rowOf (u .head) (u .tails) m count) = head-fits (u .head) (u .tails) m count (f .head) (f .tails) (sum-fits u) (f .count) in
     let four : clearRow columns (encodeWith u m) ≡ encodeWith v m =
     ap (λ s. clearRow columns s) (with-is u m) ∙ clear-row 0 columns (rowOf (u .head) (u .tails) m count) [] _ in-line fits refl ∙ sym (with-is v m) in
     ap summed four ∙ sum-in v m (sumOf (encodeWith v m)) ∙ ap (λ n. encodeWith v n) (sum-with v m)

@@ -86,6 +86,10 @@ abbrev pub total : List ℕ → ℕ
 total [] = 0
 total (x ∷ xs) = x + total xs
 
+-- the low 32 bits of a number
+abbrev pub low32 : ℕ → ℕ
+low32 n = n % 2 ^ 32
+
 -- every byte is zero
 abbrev pub zeros : List ℕ → Bool
 zeros [] = true
@@ -108,6 +112,7 @@ agree false b = not b
 cases : (number 4 (0x53 ∷ 0x58 ∷ 0x46 ∷ 0x00 ∷ 9 ∷ []) ≡ 0x00465853) × (number 2 (7 ∷ []) ≡ 7)
     × (bytes 3 0x012345 ≡ 0x45 ∷ 0x23 ∷ 0x01 ∷ []) × (numberIn (field 1 2) (9 ∷ 1 ∷ 2 ∷ 3 ∷ []) ≡ 513)
     × (numbers (2 ∷ 1 ∷ []) (1 ∷ 2 ∷ 3 ∷ 4 ∷ []) ≡ 513 ∷ 3 ∷ []) × (storedAll (2 ∷ 1 ∷ []) (513 ∷ 3 ∷ []) ≡ 1 ∷ 2 ∷ 3 ∷ [])
+    × (low32 4294967295 ≡ 4294967295) × (low32 4294967296 ≡ 0) × (low32 17112760320 ≡ 4227858432)
     × (bits 0 1 0b10110101 ≡ 0b01) × (bits 3 4 0b10110101 ≡ 0b10) × (bits 5 7 0b10110101 ≡ 0b101)
     × (bit 0 0b10110101 ≡ true) × (bit 6 0b10110101 ≡ false) × (bit 7 0b10110101 ≡ true)
-cases = (refl, refl, refl, refl, refl, refl, refl, refl, refl, refl, refl, refl)
+cases = (refl, refl, refl, refl, refl, refl, refl, refl, refl, refl, refl, refl, refl, refl, refl)

@@ -7,7 +7,7 @@ use Rattle.layout.specs.Answers.Values.{semanticValue}
 use Rattle.layout.specs.Hop.{hopChecks, hopFrom, startChecks, hopWalk, hop, frame, passedFrom, passed}
 use Rattle.layout.specs.Index.Blocks.{encodeEntry, encodeUnsummed, encodeBlock, encodeBlocks, encodeIndex}
 use Rattle.layout.specs.Index.Reading.{entriesFrom, blockEntries, goodBlock, blockIn, blocksIn, entriesIn}
-use Rattle.layout.specs.Index.Selecting.{indexOf, each, selected, picked, entryRows}
+use Rattle.layout.specs.Index.Selecting.{indexBy, each, selected, picked, entryRows}
 use Rattle.layout.specs.Layout.Cleared.{cleared}
 use Rattle.layout.specs.Layout.Encode.{encodeItem, encodeText, encodePart, encodeSubobject, encodeMetric, encodeSemantics, encodeHeader, encodeRecord}
 use Rattle.layout.specs.Layout.Encode.{encodeHead, encodeWith, sheetSum, encode}
@@ -26,12 +26,12 @@ use Rattle.layout.specs.Writing.Sheets.{titleRules, headWalk, limitRules
 use Rattle.layout.specs.Writing.Tables.{flattenHeader, flattenPart, flattenItem, flattenRecord, flatten}
 
 unfoldable pub computing : Unit {0}
-unfolding restChecks carriedChecks byte20 byte21 byte22 referenceChecks visibilityOf itemChecks itemWalk textWalk partWalk subobjectWalk metricWalk lengthChecks
-    markChecks headerWalk bodyWalk recordWith recordWalk sizeChecks passportChecks descriptorChecks reservedChecks sheetWalk encodeItem encodeText encodePart
-    encodeSubobject encodeMetric encodeSemantics encodeHeader encodeRecord encodeHead encodeWith sheetSum encode cleared itemYears recordYears years
-    flattenHeader flattenPart flattenItem flattenRecord flatten itemRules takeItem firstRules laterRules elementRules textRules takePart roomRules nameRules countRules
-    rowRules takeInside rowWalk endRules rowsWalk titleRules headWalk limitRules tableWalk reading unfolded roomy asked written checkedOf foundOf headedOf
-    writtenOf indexedOf unitIn cornersIn cornersOf unitOf numberOf semanticValue encodeEntry encodeUnsummed encodeBlock encodeBlocks encodeIndex entriesFrom
-    blockEntries goodBlock blockIn blocksIn entriesIn indexOf each selected picked entryRows hopChecks hopFrom startChecks hopWalk hop frame passedFrom
-    passed hoppedOf
+unfolding restChecks carriedChecks byte20 byte21 byte22 referenceChecks visibilityOf itemChecks itemWalk textWalk partWalk subobjectWalk metricWalk
+    lengthChecks markChecks headerWalk bodyWalk recordWith recordWalk sizeChecks passportChecks descriptorChecks reservedChecks sheetWalk encodeItem
+    encodeText encodePart encodeSubobject encodeMetric encodeSemantics encodeHeader encodeRecord encodeHead encodeWith sheetSum encode cleared itemYears
+    recordYears years flattenHeader flattenPart flattenItem flattenRecord flatten itemRules takeItem firstRules laterRules elementRules textRules takePart
+    roomRules nameRules countRules rowRules takeInside rowWalk endRules rowsWalk titleRules headWalk limitRules tableWalk reading unfolded roomy asked written
+    checkedOf foundOf headedOf writtenOf indexedOf unitIn cornersIn cornersOf unitOf numberOf semanticValue encodeEntry encodeUnsummed encodeBlock
+    encodeBlocks encodeIndex entriesFrom blockEntries goodBlock blockIn blocksIn entriesIn indexBy each selected picked entryRows hopChecks hopFrom
+    startChecks hopWalk hop frame passedFrom passed hoppedOf
 computing = tt

@@ -70,6 +70,7 @@ ASK = 16
 abbrev pub NO-CHARACTER : ℕ
 NO-CHARACTER = 17
 
--- "18 BAD BLOCK with the block's place, for a wrong length, number, count, filling or sum, blocks in order" (02, request 3)
+-- "18 BAD BLOCK with the block's place, for a wrong length, number, count, filling or sum, blocks in order" (02, request 3);
+-- "18 also for mixed kinds" (request 7)
 abbrev pub BAD-BLOCK : ℕ
 BAD-BLOCK = 18

@@ -27,7 +27,7 @@ pub struct Refusal {
     pub year: u32,
 }
 
-// What an accepted sheet has: its sum, its count of records, and the lengths of the three outputs of unfolding it.
+// What an accepted sheet has: the low 32 bits of its sum, its count of records, and the lengths of the three outputs of unfolding it.
 pub struct Sizes {
     pub sum: u32,
     pub records: u32,
@@ -88,6 +88,12 @@ pub struct Entry {
     pub code: u32,
     pub place: usize,
     pub localisation: u8,
+}
+
+// The two kinds of blocks: "new blocks carry 56 entries of 9 bytes with a 4-byte place [..]. Old blocks stay readable" (02, request 7).
+pub enum BlockKind {
+    Old,
+    New,
 }
 
 // What an index has: its entries, and the blocks in which they stand.

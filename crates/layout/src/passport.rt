@@ -13,6 +13,9 @@ pub const EDITION_IS: u32 = 0x00040000;
 
 pub const SUM: usize = 12;
 
+// "only its low 32 are kept" (02, request 7): how many values these have
+pub const SUM_MODULUS: u64 = 4294967296;
+
 // the first byte after the sum
 pub const AFTER_SUM: usize = 16;
 

@@ -1,14 +1,14 @@
 // The sheet as a whole: its limit, where its records start, and the mark. (specs/Fields.antt, specs/Reading/Sheets.antt,
 // specs/Shared/Mark.antt)
 
-// "A sheet is at most 16,777,216 bytes"
-pub const LIMIT: usize = 16777216;
+// "Raise it to 67,108,864 bytes." (02, request 7)
+pub const LIMIT: usize = 67108864;
 
 // One byte more than the limit: a length is counted up to it and no further, so that no sum of lengths wraps.
-pub const PAST_LIMIT: usize = 16777217;
+pub const PAST_LIMIT: usize = 67108865;
 
 // The limit without the bytes of the head: how many bytes the records of a sheet may have.
-pub const RECORDS_LIMIT: usize = 16776764;
+pub const RECORDS_LIMIT: usize = 67108412;
 
 // Passport and descriptor have 452 bytes; the records follow.
 pub const START: usize = 452;

@@ -1,7 +1,7 @@
 // The answers as programs in C hold them: structs by value, whose first number is 0 for success. (include/sxf.h)
 
-// The version of these structs and of the record table, `SXF_VERSION` of include/sxf.h.
-pub const VERSION: u32 = 3;
+// The version of the calls for C, `SXF_VERSION` of include/sxf.h: raised where a program has to be changed or built again. (specs/Answers/Structs.antt)
+pub const VERSION: u32 = 4;
 
 // number 0: accepted, with its sizes. Otherwise the refusal, and the sizes are 0.
 #[repr(C)]

@@ -9,13 +9,14 @@ use Rattle.layout.specs.Answers.Enums.{refusal, sizesOf, checkedOf, headAt, hea
 use Rattle.layout.specs.Answers.Lent.{rooms, theNumbers, theElements, theBytes, theGiven}
 use Rattle.layout.specs.Bytes.{Bytes}
 use Rattle.layout.specs.Index.Blocks.{encodeIndex}
-use Rattle.layout.specs.Index.Selecting.{entriesOf, indexOf, pickRecords, picked}
+use Rattle.layout.specs.Index.Selecting.{entriesOf, indexBy, indexOf, pickRecords, picked}
 use Rattle.layout.specs.Layout.Cleared.{cleared}
 use Rattle.layout.specs.Reading.Sheets.{start}
 use Rattle.layout.specs.Shared.Tails.{cleanTails, cleanOf}
 use Rattle.layout.specs.Sheet.{Sheet, Table}
 use Rattle.layout.specs.Walk.{Answer, given, refused}
 use Rattle.layout.specs.Writing.Tables.{flatten}
+use Rattle.layout.specs.declared.BlockKind.the-variants.{New}
 use Rattle.layout.specs.declared.Checked.the-variants as Check
 use Rattle.layout.specs.declared.Checked.{Checked}
 use Rattle.layout.specs.declared.Corners.{Corners}
@@ -132,9 +133,9 @@ module _ (y : ℕ) (s : List ℕ) (bs : Bytes s) (z : Sizes) (c : Checks y s (Ch
 
   -- The index that `build` makes, and what `select` picks from the sheet, are the same, and so are the slices.
   pub cleared-index : (o out new : List ℕ) (r q : Written) → Gives (indexOf v s) o out r → Gives (indexOf v (cleared s)) o new q → (q ≡ r) × (new ≡ out)
-  unfolding indexOf
+  unfolding indexBy
   cleared-index =
-      let index : Answer Sheet → Answer (List ℕ) = λ x. andThen x (λ t. given (encodeIndex (entriesOf start (t .records)))) in
+      let index : Answer Sheet → Answer (List ℕ) = λ x. andThen x (λ t. given (encodeIndex New (entriesOf start (t .records)))) in
       given-alike (ap index alike ∙ blind index (λ t. refl) (reading v s))
 
   pub cleared-picks : (code : ℕ) (o out new : List ℕ) (r q : Written) → Gives (picked v s code) o out r → Gives (picked v (cleared s) code) o new q

@@ -36,7 +36,7 @@ use Rattle.layout.specs.Answers.Enums.{checkedOf, foundOf, headedOf, unitIn, co
 use Rattle.layout.specs.Answers.Lent.{headOf, rooms, theNumbers, theElements, theBytes, theSheet, theTurned, theGiven}
 use Rattle.layout.specs.Codings.Turning.{toUtf16, fromUtf16}
 use Rattle.layout.specs.Hop.{hop, frame}
-use Rattle.layout.specs.Index.Reading.{entriesIn}
+use Rattle.layout.specs.Index.Reading.{fileKind, entriesIn}
 use Rattle.layout.specs.Index.Selecting.{indexOf, selected, picked, entryRows}
 use Rattle.layout.specs.Sheet.{Head, Table}
 use Rattle.layout.specs.Walk.{Answer}
@@ -197,7 +197,7 @@ from-utf16-says κs a x e p = p
 
 -- `check` of an index
 abbrev pub ChecksIndex : List ℕ → Indexed → Type 0
-ChecksIndex xs r = r ≡ indexedOf (entriesIn xs)
+ChecksIndex xs r = r ≡ indexedOf (fileKind xs) (entriesIn xs)
 
 pub index-check-says : Says index-check-kinds.ps index-check-kinds.r index-check.Post (λ κs a x e. ChecksIndex (now (a .0)) x)
 index-check-says κs a x e p = p

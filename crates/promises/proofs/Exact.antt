@@ -12,10 +12,10 @@ use Rattle.layout.specs.Answers.Corners.{planeCorners}
 use Rattle.layout.specs.Answers.Enums.{sizesOf, checkedOf, headAt, headedOf, foundOf, unitIn, cornersIn}
 use Rattle.layout.specs.Answers.Lent.{rooms, theNumbers, theElements, theBytes}
 use Rattle.layout.specs.Answers.Units.{sheetUnit}
-use Rattle.layout.specs.Bytes.{Bytes}
+use Rattle.layout.specs.Bytes.{Bytes, low32}
 use Rattle.layout.specs.Layout.Encode.{encode}
 use Rattle.layout.specs.Layout.Fine.{Fine}
-use Rattle.layout.specs.Reading.Sheets.{start}
+use Rattle.layout.specs.Reading.Sheets.{start, wholeSum, sumOf}
 use Rattle.layout.specs.Sheet.{Sheet}
 use Rattle.layout.specs.Walk.{given}
 use Rattle.layout.specs.Writing.Tables.{flatten}
@@ -29,7 +29,9 @@ use Rattle.layout.specs.declared.Refusal.{Refusal}
 use Rattle.layout.specs.declared.Sizes.{Sizes}
 use Rattle.layout.specs.declared.UnitAnswer.the-variants as Unit-of
 use Rattle.layout.specs.declared.UnitAnswer.{UnitAnswer}
+use Rattle.laws.proofs.Called.{reading-sound}
 use Rattle.laws.proofs.Exact.{Keeps, exact-reading}
+use Rattle.laws.proofs.Reading.Sheets.{encode-sum}
 use Rattle.promises.proofs.Contracts.{Checks, Heads, Units, Cornered, Finds, Unfolds}
 use Rattle.promises.proofs.Rooms.{Fit, rooms-on, roomy-back}
 use Rattle.reading.proofs.Laws.Seen.{by-accepted}
@@ -61,6 +63,13 @@ module _ (s : List ℕ) (bs : Bytes s) where
     λ e. let a = by-accepted (reading 2017 s) z (sym e ∙ c) in (a .0, exact-reading s bs (a .0) .0 (a .1), a .2),
     λ f. c ∙ ap checkedOf (exact-reading s bs (f .0) .1 (f .1)) ∙ ap Check.Accepted (sym (f .2)),
   )
+
+  -- The sum that it answers at any setting is of s as it stands: "all bytes of the sheet as numbers 0 to 255, with the four bytes at 12 counted as zero", of
+  -- which "only its low 32 are kept" (02, request 7).
+  pub check-sum : (y : ℕ) (r : Checked) → Checks y s r → (z : Sizes) → r ≡ Check.Accepted z → z .sum ≡ low32 (wholeSum s)
+  check-sum y r c z e =
+      let (t, read, sizes) = by-accepted (reading y s) z (sym e ∙ c) in
+      ap (λ (v : Sizes). v .sum) sizes ∙ sym (encode-sum t) ∙ ap sumOf (reading-sound y s t bs read .is)
 
   -- `unfold` accepts s exactly when it is the writing of a fine sheet whose table fits the slices,
   pub unfold-exact : (t₀ e₀ b₀ t₁ e₁ b₁ : List ℕ) (r : Checked) → Unfolds 2017 s t₀ e₀ b₀ t₁ e₁ b₁ r → (z : Sizes)

@@ -66,7 +66,8 @@ in-rest s i =
 
 words : (s : List ℕ) → Bytes s → Words (storedIn s)
 words s bs =
-    let word : (n : ℕ) → storedAt s n < 2 ^ 64 = λ n. number-lt 8 (drop (Passport.corners .place + 8 * n) s) (all-drop _ (Passport.corners .place + 8 * n) s bs) in
+    let word : (n : ℕ) → storedAt s n < 2 ^ 64 =
+    λ n. number-lt 8 (drop (Passport.corners .place + 8 * n) s) (all-drop _ (Passport.corners .place + 8 * n) s bs) in
     record {
       sw-x = word 0;
       sw-y = word 1;

@@ -1,4 +1,4 @@
-// The index as programs, so that nothing is asked of what is lent but its type. (02, request 3)
+// The index as programs, so that nothing is asked of what is lent but its type. (02, requests 3 and 7)
 ghost use mathlib.Core.Bool.{true};
 ghost use mathlib.Core.List.{List};
 ghost use mathlib.Core.Logic.{_↔_};
@@ -15,14 +15,15 @@ use crate::lent;
 use fields::numbers::part;
 use index::files;
 use index::sheets;
+use layout::BlockKind;
 use layout::Entry;
 use layout::Indexed;
 use layout::Written;
 use meanings::setting::Setting;
 
-// True exactly where the bytes are the blocks of some entries.
+// True exactly where the bytes are the blocks of some entries, all of one kind.
 pub fn keeps_blocks(index: &[u8]) -> bool
-    ensures { λ r. ⌜ (r ≡ true) ↔ ((es : List Entry) × FineEntries es × (encodeIndex es ≡ now (index .entry))) ⌝ }
+    ensures { λ r. ⌜ (r ≡ true) ↔ ((kind : BlockKind) × (es : List Entry) × FineEntries kind es × (encodeIndex kind es ≡ now (index .entry))) ⌝ }
 {
     lent::bytes(index);
     match files::check(index) {

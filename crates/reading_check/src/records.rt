@@ -136,7 +136,7 @@ pub fn records(xs: &[u8], p: usize, n: u32, year: u32) -> Counted
 
 pub struct Walked {
     pub counted: Counted,
-    pub sum: u32,
+    pub sum: u64,
 }
 
 // What was counted, with the sum carried on to the last byte.

@@ -13,6 +13,7 @@ use crate::records;
 use crate::tally::Counted;
 use fields::numbers;
 use fields::steps::Step;
+use fields::sums;
 use layout::Checked;
 use layout::Refusal;
 use layout::Sizes;
@@ -62,7 +63,8 @@ fn check_whole(s: &[u8], year: u32) -> Checked
         year,
     );
     let counted = walked.counted;
-    match check::check(s, check::head_sum(s) + walked.sum, year) {
+    let sum = sums::low(check::head_sum(s) + walked.sum);
+    match check::check(s, sum, year) {
         Step::Fine => check_records(s, counted, year),
         Step::Refused(r) => Checked::Refused(r),
     }

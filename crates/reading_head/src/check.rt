@@ -8,7 +8,7 @@ ghost use Rattle.fields.specs.Steps.{Next};
 ghost use Rattle.fields.specs.declared.steps.Step.the-variants.{Fine};
 ghost use Rattle.layout.specs.Bytes.{number, total};
 ghost use Rattle.layout.specs.Fields.{limit};
-ghost use Rattle.layout.specs.Reading.Sheets.{sumOf, sizeChecks, passportChecks, start};
+ghost use Rattle.layout.specs.Reading.Sheets.{wholeSum, sumOf, sizeChecks, passportChecks, start};
 ghost use Rattle.layout.specs.Refusals.{TEXT};
 ghost use Rattle.layout.specs.Shared.Texts.{isTextField};
 ghost use Rattle.layout.specs.Walk.{must};
@@ -61,9 +61,9 @@ fn text(so_far: Step, s: &[u8], p: usize, n: usize) -> Step
 }
 
 // The sum of passport and descriptor, without the four bytes that state the sum.
-pub fn head_sum(s: &[u8]) -> u32
+pub fn head_sum(s: &[u8]) -> u64
     requires { ⌜ (start ≤ length (now s)) × (length (now s) ≤ limit) ⌝ }
-    ensures { λ r. ⌜ (r + total (drop start (now (s .entry))) ≡ sumOf (now (s .entry))) × (r ≤ 255 * start) ⌝ }
+    ensures { λ r. ⌜ (r + total (drop start (now (s .entry))) ≡ wholeSum (now (s .entry))) × (r ≤ 255 * start) ⌝ }
 {
     let front = sums::sum_of(numbers::part(s, 0, passport::SUM));
     let back = sums::sum_of(numbers::part(s, passport::AFTER_SUM, sheet::START_AFTER_SUM));

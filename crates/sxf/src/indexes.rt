@@ -5,7 +5,7 @@ ghost use Rattle.layout.specs.Answers.Calls.{roomed, lent};
 ghost use Rattle.layout.specs.Answers.Enums.{writtenOf, indexedOf};
 ghost use Rattle.layout.specs.Answers.Lent.{theGiven};
 ghost use Rattle.layout.specs.Answers.Structs.{writtenRow, indexRow};
-ghost use Rattle.layout.specs.Index.Reading.{entriesIn};
+ghost use Rattle.layout.specs.Index.Reading.{fileKind, entriesIn};
 ghost use Rattle.layout.specs.Index.Selecting.{indexOf, selected, picked, entryRows};
 use crate::written::written_row;
 use index::files;
@@ -46,7 +46,7 @@ fn index_row(i: Indexed) -> SxfIndex
 
 #[no_mangle]
 pub extern "C" fn sxf_index_check(index: &[u8]) -> SxfIndex
-    ensures { λ r. ⌜ r ≡ indexRow (indexedOf (entriesIn (now (index .entry)))) ⌝ }
+    ensures { λ r. ⌜ r ≡ indexRow (indexedOf (fileKind (now (index .entry))) (entriesIn (now (index .entry)))) ⌝ }
 {
     index_row(files::check(index))
 }

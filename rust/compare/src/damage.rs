@@ -74,8 +74,9 @@ fn damage(sheet: &mut Vec<u8>, kind: usize, random: &mut Random) {
 pub fn put_sum_right(sheet: &mut [u8]) {
     if sheet.len() >= passport::SUM.after() {
         sheet[passport::SUM.range()].fill(0);
-        let sum: u32 = sheet.iter().map(|&b| u32::from(b)).sum();
-        sheet[passport::SUM.range()].copy_from_slice(&sum.to_le_bytes());
+        // "The sum may now pass 32 bits, and only its low 32 are kept" (02, request 7).
+        let sum: u64 = sheet.iter().map(|&byte| u64::from(byte)).sum();
+        sheet[passport::SUM.range()].copy_from_slice(&(sum as u32).to_le_bytes());
     }
 }
 

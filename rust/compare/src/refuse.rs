@@ -24,7 +24,7 @@ fn cases() -> Vec<(&'static str, Vec<u8>)> {
     let mut wrong_sum = plain.clone();
     wrong_sum[passport::SUM.place] ^= 1;
     let graphics = [0xFE, 0x7F, 0xFF, 0x7F, 24, 0, 0, 0, 1, 0, 0, 0, 12, 0, 128, 0, 255, 0, 0, 0, 100, 0, 0, 0];
-    let lines = vec![Record::new(0, &[[1.0, 2.0, 0.0]; 20]); 40_000];
+    let lines = vec![Record::new(0, &[[1.0, 2.0, 0.0]; 20]); 100_000];
     vec![
         ("a wrong sum, all else right", wrong_sum),
         ("another identifier at 0", changed(&|s| s[passport::IDENTIFIER.place] = b'A')),
@@ -44,7 +44,7 @@ fn cases() -> Vec<(&'static str, Vec<u8>)> {
                 s.extend_from_slice(&graphics);
             }),
         ),
-        ("a good sheet of more than 16 MiB", long(&lines)),
+        ("a good sheet of more than 64 MiB", long(&lines)),
     ]
 }
 

@@ -1,4 +1,4 @@
-//! Times a plain copy, the archive, `second` and GDAL on sheets of 16 MiB, in one run. Each figure is the best of the rounds. In a
+//! Times a plain copy, the archive, `second` and GDAL on sheets of 16 MiB and of 64 MiB, in one run. Each figure is the best of the rounds. In a
 //! round each has its turn, so that a slow spell of the machine meets all of them, and each round has an order of its own, so that none
 //! always finds memory as the same other leaves it. The time is the processor's, the system's part included, so that other work on the
 //! machine counts little.
@@ -13,7 +13,19 @@ use sxf::fields::{header, START};
 use sxf::table::unfold_into;
 use sxf::{Sizes, Table, LIMIT};
 
-const ROUNDS: usize = 64;
+/// How long a sheet is at most, and how many rounds it is timed in.
+struct Length {
+    name: &'static str,
+    bytes: usize,
+    rounds: usize,
+}
+
+/// The longer ones are as long as the limit allows. They have fewer rounds, each of which takes four times as long.
+const LENGTHS: [Length; 2] =
+    [Length { name: "16 MiB", bytes: 16 << 20, rounds: 64 }, Length { name: "64 MiB", bytes: LIMIT, rounds: 24 }];
+
+/// How many times as fast as GDAL what is judged has to be.
+const REQUIRED: f64 = 15.0;
 
 #[derive(Clone, Copy)]
 enum Timed {
@@ -54,11 +66,11 @@ const RATIOS: [(&str, Timed, Timed); 5] = [
     ("`second::read` / (check + unfold)", Timed::SecondRead, Timed::CheckUnfold),
 ];
 
-/// Lines of so many points with 8-byte elements, as many as the limit has room for.
-fn sheet(points: usize) -> Vec<u8> {
+/// Lines of so many points with 8-byte elements, as many as a sheet of so many bytes has room for.
+fn sheet(length: usize, points: usize) -> Vec<u8> {
     let mut random = Random(1);
     let mut point = || [6_000_000.0 + 5000.0 * random.unit(), 7_500_000.0 + 5000.0 * random.unit(), 0.0];
-    let count = (LIMIT - START) / (header::SIZE + 16 * points);
+    let count = (length - START) / (header::SIZE + 16 * points);
     let records =
         (0..count).map(|_| Record::new(if points == 1 { 2 } else { 0 }, &(0..points).map(|_| point()).collect::<Vec<_>>()));
     Sheet::real(records.collect()).write()
@@ -202,11 +214,11 @@ impl<'a> Bench<'a> {
     }
 }
 
-fn measure(bench: &mut Bench) -> Best {
+fn measure(bench: &mut Bench, rounds: usize) -> Best {
     let mut best = Best([f64::MAX; TIMED.len()]);
     let mut random = Random(1);
     let mut order = TIMED.map(|timed| timed.0);
-    for _ in 0..ROUNDS {
+    for _ in 0..rounds {
         random.shuffle(&mut order);
         for which in order {
             best.time(which, || bench.work(which));
@@ -222,7 +234,8 @@ fn row(cells: &[String]) {
 }
 
 fn print_heading() {
-    let names = ["points in a record", "records"].into_iter().chain(TIMED.map(|timed| timed.1)).chain(RATIOS.map(|ratio| ratio.0));
+    let names =
+        ["sheet", "points in a record", "records"].into_iter().chain(TIMED.map(|timed| timed.1)).chain(RATIOS.map(|ratio| ratio.0));
     let names: Vec<String> = names.map(String::from).collect();
     row(&names);
     println!("|{}", "---|".repeat(names.len()));
@@ -234,22 +247,41 @@ fn three_digits(ratio: f64) -> String {
     format!("{ratio:.decimals$}")
 }
 
-fn print_times(points: usize, records: usize, best: &Best) {
+fn print_times(length: &str, points: usize, records: usize, best: &Best) {
     let times = TIMED.map(|(which, _)| format!("{:.1}", best.of(which)));
     let ratios = RATIOS.map(|(_, of, to)| three_digits(best.of(of) / best.of(to)));
-    row(&[&[points.to_string(), records.to_string()][..], &times, &ratios].concat());
+    row(&[&[length.to_string(), points.to_string(), records.to_string()][..], &times, &ratios].concat());
+}
+
+/// What has to be so many times as fast as GDAL: each of the two calls, and the two together.
+const JUDGED: [(Timed, &str); 3] = [(Timed::Check, "check"), (Timed::Unfold, "unfold"), (Timed::CheckUnfold, "check + unfold")];
+
+/// Prints a row for each count of points, and says how many times as fast as GDAL the slowest of them is.
+fn time(gdal: &Gdal, path: &str, &Length { name, bytes, rounds }: &Length) -> String {
+    let mut least = [f64::MAX; JUDGED.len()];
+    for points in [65_000, 100, 10, 1] {
+        let sheet = sheet(bytes, points);
+        std::fs::write(path, &sheet).expect("room for the sheet's file");
+        let mut bench = Bench::new(gdal, &sheet, path, points);
+        let best = measure(&mut bench, rounds);
+        print_times(name, points, bench.sizes.records, &best);
+        for (least, (which, _)) in least.iter_mut().zip(JUDGED) {
+            *least = least.min(best.of(Timed::Gdal) / best.of(which));
+        }
+    }
+    let judge = |least: f64, call: &str| {
+        let met = if least >= REQUIRED { "met" } else { "MISSED" };
+        format!("{name}: {call} at least {least:.1} times as fast as GDAL; {REQUIRED} times is required, {met}")
+    };
+    least.iter().zip(JUDGED).map(|(&least, (_, call))| judge(least, call)).collect::<Vec<_>>().join("\n")
 }
 
 pub fn run(gdal: &Gdal) {
     let scratch = Scratch::new();
     let path = scratch.path("timed.sxf");
-    println!("GDAL {}, best of {ROUNDS} rounds, milliseconds of processor time.\n", gdal.version());
+    let rounds = LENGTHS.map(|length| format!("{} of {}", length.rounds, length.name)).join(", ");
+    println!("GDAL {}, best of the rounds ({rounds}), milliseconds of processor time.\n", gdal.version());
     print_heading();
-    for points in [65_000, 100, 10, 1] {
-        let sheet = sheet(points);
-        std::fs::write(&path, &sheet).expect("room for the sheet's file");
-        let mut bench = Bench::new(gdal, &sheet, &path, points);
-        let best = measure(&mut bench);
-        print_times(points, bench.sizes.records, &best);
-    }
+    let told = LENGTHS.map(|length| time(gdal, &path, &length));
+    println!("\n{}", told.join("\n"));
 }

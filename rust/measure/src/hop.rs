@@ -1,4 +1,4 @@
-//! Times hopping from header to header. Finding the frame, where it is the first record, is timed on sheets of three lengths, since it must not
+//! Times hopping from header to header. Finding the frame, where it is the first record, is timed on sheets of four lengths, since it must not
 //! take longer on a longer sheet. Hopping over all headers is timed beside checking the same sheet. In a round each of the two is run a few times in a
 //! row, so that it is also timed over what it left in the processor's caches itself, and not only over what the other did. Each figure is the best of
 //! many rounds, and what is found must be what the sheet was made with. It ends with 1 if a figure is not what is required:
@@ -39,7 +39,7 @@ const NO_CODE: u32 = 1;
 struct Case {
     /// How many points a record has.
     points: usize,
-    /// How many records then fill a sheet.
+    /// How many records then fill 16 MiB.
     records: usize,
     /// How many times as fast as checking the sheet it has to be.
     required: f64,
@@ -63,12 +63,12 @@ fn nanoseconds_to_frame(sheet: &[u8]) -> f64 {
     best * 1e6 / CALLS as f64
 }
 
-/// Times the frame on sheets of three lengths, and tells whether all are as fast as is required.
+/// Times the frame on sheets of four lengths, and tells whether all are as fast as is required.
 fn time_frames() -> bool {
     println!("| sheet, bytes | records | finding the frame, ns |");
     println!("|---|---|---|");
     let mut longest = 0f64;
-    for length in [LIMIT, MEBIBYTE, START + sheets::total(KIND, POINTS)] {
+    for length in [LIMIT, sheets::LENGTH, MEBIBYTE, START + sheets::total(KIND, POINTS)] {
         let sheet = sheets::make_within(length, KIND, POINTS, || 0);
         let sizes = sxf::check(&sheet, SETTING).expect("the sheet is accepted");
         let taken = nanoseconds_to_frame(&sheet);

@@ -1,4 +1,4 @@
-//! Times a code index beside what goes without one, on a sheet as long as the limit allows: building it beside unfolding the sheet, and selecting
+//! Times a code index beside what goes without one, on a sheet of 16 MiB: building it beside unfolding the sheet, and selecting
 //! through it beside selecting from the sheet. Each figure is the best of many rounds, and in a round each of the five has its turn. Both
 //! selections must be the same, and hit as many records as have the code.
 //!

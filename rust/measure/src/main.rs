@@ -3,7 +3,7 @@
 //!
 //! `measure texts` times texts that are turned to UTF-16 and back instead, beside glibc's `iconv`, and `measure texts --each` holds each byte
 //! and each unit against it. `measure index` times a code index, and selections through it and without it. `measure hop` times finding the frame, and
-//! hopping over all headers beside checking the sheet.
+//! hopping over all headers beside checking the sheet. `measure lengths` holds what a byte of a sheet of 64 MiB takes against one of 16 MiB.
 #![deny(unsafe_code)]
 
 mod each;
@@ -12,6 +12,7 @@ mod hop;
 #[allow(unsafe_code)]
 mod iconv;
 mod index;
+mod lengths;
 mod random;
 mod sheets;
 mod texts;
@@ -107,8 +108,9 @@ fn main() -> ExitCode {
         ["index"] => index::time(),
         ["texts", "--each"] => return ExitCode::from(u8::from(!each::hold())),
         ["hop"] => return ExitCode::from(u8::from(!hop::time())),
+        ["lengths"] => return ExitCode::from(u8::from(!lengths::time())),
         _ => {
-            eprintln!("nothing, texts, texts --each, index or hop");
+            eprintln!("nothing, texts, texts --each, index, hop or lengths");
             return ExitCode::from(2);
         }
     }

@@ -1,7 +1,10 @@
-//! Sheets as long as the limit allows, or shorter, made of records of one kind.
+//! Sheets of records of one kind.
 use crate::random::Random;
 use sxf::fields::{descriptor, header, passport, Field, START};
-use sxf::{Reference, LIMIT};
+use sxf::Reference;
+
+/// How long a sheet is where nothing else is said: 16 MiB, the limit before 02, request 7. The targets of most figures are for such sheets.
+pub const LENGTH: usize = 16 << 20;
 
 /// A kind of points.
 pub struct Kind {
@@ -40,14 +43,14 @@ pub fn total(kind: &Kind, points: usize) -> usize {
     header::SIZE + points * kind.reference.point_size()
 }
 
-/// As many records of so many points, all of code 0, as the limit has room for. The elements are pseudo-random bytes.
+/// As many records of so many points, all of code 0, as 16 MiB have room for. The elements are pseudo-random bytes.
 pub fn make(kind: &Kind, points: usize) -> Vec<u8> {
     make_coded(kind, points, || 0)
 }
 
 /// The same, with a code for each record in turn.
 pub fn make_coded(kind: &Kind, points: usize, code: impl FnMut() -> u32) -> Vec<u8> {
-    make_within(LIMIT, kind, points, code)
+    make_within(LENGTH, kind, points, code)
 }
 
 /// The same, in a sheet of at most so many bytes.
@@ -68,8 +71,9 @@ pub fn make_within(length: usize, kind: &Kind, points: usize, mut code: impl FnM
         sheet.extend_from_slice(&bytes);
         sheet.extend((0..metric).map(|_| random.byte()));
     }
-    let sum = sheet.iter().map(|&b| u32::from(b)).sum();
-    put(&mut sheet, passport::SUM, sum);
+    // "The sum may now pass 32 bits, and only its low 32 are kept" (02, request 7).
+    let sum: u64 = sheet.iter().map(|&byte| u64::from(byte)).sum();
+    put(&mut sheet, passport::SUM, sum as u32);
     sheet
 }
 

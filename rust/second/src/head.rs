@@ -213,8 +213,9 @@ fn state_allowed(flags: u8) -> bool {
     flags & 0x03 == 0x03 && matches!(flags & 0x18, 0x00 | 0x18) && flags & 0x60 == 0
 }
 
-/// The sum of all bytes, those at 12 counted as zero. A sheet within the
-/// limit has a sum below 2^32.
+/// The sum of all bytes, those at 12 counted as zero. "The sum may now pass 32
+/// bits, and only its low 32 are kept" (document 02, request 7): a carry out of
+/// them is lost.
 fn sum(sheet: &[u8]) -> u32 {
     let of = |bytes: &[u8]| bytes.iter().fold(0u32, |sum, &byte| sum.wrapping_add(u32::from(byte)));
     of(&sheet[..SUM]).wrapping_add(of(&sheet[SUM + 4..]))

@@ -47,7 +47,7 @@ pub use codings::{from_utf16, to_utf16};
 pub use coordinate::{coordinate, Coordinate, Number};
 pub use head::{cleared, Head, Tails};
 pub use hop::{first_with, frame_of, Hit, Hop};
-pub use index::{index_build, index_check, index_read, index_select, select, Index};
+pub use index::{index_build, index_build_of_kind, index_check, index_read, index_select, select, BlockKind, Index};
 pub use meanings::{corners, unit, value, visibility, Unit, Value};
 pub use record::Record;
 pub use refusal::Refusal;
@@ -55,5 +55,6 @@ pub use sheet::{check, read, record_at, Reading, Sizes};
 pub use table::Table;
 pub use writer::write;
 
-/// The most bytes a sheet may have ("What the base holds").
-pub(crate) const LIMIT: usize = 16_777_216;
+/// The most bytes a sheet may have. "Raise it to 67,108,864 bytes" (document 02,
+/// request 7), from the 16,777,216 of document 01.
+pub(crate) const LIMIT: usize = 67_108_864;

@@ -52,7 +52,7 @@ impl Refusal {
     /// byte (document 02, request 1).
     pub const NO_CHARACTER: u64 = 17;
     /// A block of a code index with a wrong length, number, count, filling or
-    /// sum (document 02, request 3).
+    /// sum (document 02, request 3), or of another kind than its file (request 7).
     pub const BAD_BLOCK: u64 = 18;
 
     /// A refusal with no year.

@@ -9,7 +9,7 @@ use crate::years::Setting;
 /// What a sheet has, as far as it can be told without reading it all.
 #[derive(Clone, Copy, PartialEq, Eq, Debug)]
 pub struct Sizes {
-    /// The sum at 12.
+    /// The sum at 12, which is the low 32 bits of the whole.
     pub sum: u64,
     /// The record count at 440.
     pub records: u64,
@@ -24,7 +24,7 @@ pub struct Sizes {
 /// All that a sheet says.
 #[derive(Clone, PartialEq, Eq, Debug)]
 pub struct Reading {
-    /// The sum at 12.
+    /// The sum at 12, which is the low 32 bits of the whole.
     pub sum: u64,
     /// The record count at 440.
     pub records: u64,

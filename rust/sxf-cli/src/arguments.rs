@@ -105,9 +105,10 @@ pub enum Command {
     },
     /// Write a code index of a sheet, for `sxf select`
     ///
-    /// The index has the class code, the place and the localisation of each record, 63 to a block of 512 bytes; that of a sheet without records
+    /// The index has the class code, the place and the localisation of each record, 56 to a block of 512 bytes; that of a sheet without records
     /// is empty. It does not say which sheet it belongs to, and its format cannot tell: keep it beside its sheet, and build it again after each
-    /// change. `sxf index FILE -o - | cmp - INDEX` tells whether it is that of the sheet as it stands. The file is written whole or not at all, and
+    /// change. `sxf index FILE -o - | cmp - INDEX` tells whether it is that of the sheet as it stands. An index of the old kind, 63 to a block, is not
+    /// written any more, and has other bytes than the new one; `sxf select` takes both. The file is written whole or not at all, and
     /// never over the sheet that FILE names or that standard input is; a sheet that comes through a pipe is not known.
     Index {
         /// The sheet
@@ -128,7 +129,8 @@ pub enum Command {
     /// programs that keep the sheet checked, or read records by place. An index does not say which sheet it belongs to, and its
     /// format cannot tell: keep it beside its sheet, and build it again after each change. It is noticed, and nothing listed, where the index has not
     /// as many entries as the sheet has records, or has under the code a record that is not the sheet's by number, place, code and localisation.
-    /// It is not noticed where the index has a record of the code under another one: that record is missing then.
+    /// It is not noticed where the index has a record of the code under another one: that record is missing then. An index of the old kind, as `sxf
+    /// index` wrote it before 0.8.0, lists the same.
     Select {
         /// The sheet
         file: PathBuf,

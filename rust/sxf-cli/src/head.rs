@@ -1,11 +1,11 @@
-//! The head of a sheet that is written, out of its JSON line.
+//! The head of a sheet that is written, out of its JSON line or of the sheet that it was read from.
 use crate::hex::Hex;
 use crate::json::{HeadLine, EDITION};
 use crate::tails;
 use crate::text::Given;
 use sxf::fields::{descriptor, passport, Carried, Rest};
 use sxf::tails::letters;
-use sxf::Head;
+use sxf::{Head, Tails};
 
 /// The head with texts of its own, and what is told of the old letters that it is written without.
 pub struct OwnHead {
@@ -16,7 +16,7 @@ pub struct OwnHead {
     rest: Rest,
     designation2: Vec<u8>,
     carried: Carried,
-    /// A sentence for each tail that the line has and that is not clean.
+    /// A sentence for each tail that the line or the sheet has and that is not clean.
     pub cleared: Vec<String>,
 }
 
@@ -35,6 +35,20 @@ impl OwnHead {
             carried: fixed("flags", &line.carried)?,
             cleared: cleared(line)?,
         })
+    }
+
+    /// The head of a sheet that was read, and its tails.
+    pub fn copied(head: &Head<'_>, tails: &Tails<'_>) -> OwnHead {
+        OwnHead {
+            date: head.date.to_vec(),
+            designation: head.designation.to_vec(),
+            scale: head.scale,
+            title: head.title.to_vec(),
+            rest: *head.rest,
+            designation2: head.designation2.to_vec(),
+            carried: *head.carried,
+            cleared: tails.dirty().map(|(name, tail)| tails::cleared(name, tail.letters())).collect(),
+        }
     }
 
     pub fn lend(&self) -> Head<'_> {

@@ -6,7 +6,6 @@
 use crate::element::whole;
 use crate::hex::Hex;
 use crate::object::objects;
-use crate::points::Points;
 use serde::de::Deserializer;
 use serde::{Deserialize, Serialize};
 use std::borrow::Cow;
@@ -71,9 +70,10 @@ fn some_whole<'de, D: Deserializer<'de>>(deserializer: D) -> Result<Option<u64>,
     whole(deserializer).map(Some)
 }
 
+/// A record. Its points are [those of a sheet](crate::points::Stored) where it is printed, and [those of a line](crate::points::Points) where it is read.
 #[derive(Serialize, Deserialize)]
 #[serde(deny_unknown_fields, expecting = "a record, an object")]
-pub struct RecordLine<'a> {
+pub struct RecordLine<'a, P> {
     #[serde(deserialize_with = "whole")]
     pub code: u64,
     #[serde(rename = "number_in_group", deserialize_with = "whole")]
@@ -91,16 +91,16 @@ pub struct RecordLine<'a> {
     /// whether the record needs it, so that a line from before there was a `mark` means what it meant.
     #[serde(default, deserialize_with = "some_whole", skip_serializing_if = "Option::is_none")]
     pub mark: Option<u64>,
-    #[serde(deserialize_with = "objects")]
-    pub parts: Vec<PartLine<'a>>,
+    #[serde(deserialize_with = "objects", bound(deserialize = "P: Deserialize<'de>"))]
+    pub parts: Vec<PartLine<'a, P>>,
     #[serde(deserialize_with = "objects")]
     pub items: Vec<ItemLine<'a>>,
 }
 
 #[derive(Serialize, Deserialize)]
 #[serde(deny_unknown_fields, expecting = "a part, an object")]
-pub struct PartLine<'a> {
-    pub points: Points,
+pub struct PartLine<'a, P> {
+    pub points: P,
     /// Without its closing zero; left out where it is empty, as it is without the text bit.
     #[serde(default, deserialize_with = "some", skip_serializing_if = "Option::is_none")]
     pub label: Option<String>,

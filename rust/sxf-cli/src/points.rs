@@ -5,7 +5,37 @@ use serde::{Serialize, Serializer};
 use std::fmt;
 use sxf::{ElementKind, Reference};
 
-/// The elements of all points, one after another.
+/// The points of a sheet's part, lent as they are stored: a part may be nearly as long as the sheet, so its elements are not held once more to be
+/// printed.
+pub struct Stored<'a> {
+    kinds: Vec<ElementKind>,
+    elements: &'a [u64],
+}
+
+impl<'a> Stored<'a> {
+    pub fn of(reference: Reference, elements: &'a [u64]) -> Stored<'a> {
+        Stored { kinds: kinds(reference), elements }
+    }
+}
+
+impl Serialize for Stored<'_> {
+    fn serialize<S: Serializer>(&self, serializer: S) -> Result<S::Ok, S::Error> {
+        serializer.collect_seq(self.elements.chunks(self.kinds.len()).map(|elements| StoredPoint { kinds: &self.kinds, elements }))
+    }
+}
+
+struct StoredPoint<'a> {
+    kinds: &'a [ElementKind],
+    elements: &'a [u64],
+}
+
+impl Serialize for StoredPoint<'_> {
+    fn serialize<S: Serializer>(&self, serializer: S) -> Result<S::Ok, S::Error> {
+        serializer.collect_seq(self.kinds.iter().zip(self.elements).map(|(&kind, &bits)| Element::of(kind, bits)))
+    }
+}
+
+/// The points that a line has: the elements of all of them, one after another.
 #[derive(Default)]
 pub struct Points {
     elements: Vec<Element>,
@@ -20,25 +50,20 @@ fn kinds(reference: Reference) -> Vec<ElementKind> {
 }
 
 impl Points {
-    /// The points of stored elements.
-    pub fn of(reference: Reference, elements: &[u64]) -> Points {
-        let kinds = kinds(reference);
-        let elements = elements.iter().zip(kinds.iter().cycle()).map(|(&bits, &kind)| Element::of(kind, bits)).collect();
-        Points { elements, of_a_point: kinds.len() }
-    }
-
     pub fn len(&self) -> usize {
         self.elements.len() / self.of_a_point.max(1)
     }
 
-    /// The bits of all elements, as a record of this reference number stores them, or what keeps it from that.
-    pub fn bits(&self, reference: Reference) -> Result<Vec<u64>, String> {
+    /// Adds the bits of all elements, as a record of this reference number stores them, or says what keeps it from that.
+    pub fn add_bits(&self, reference: Reference, to: &mut Vec<u64>) -> Result<(), String> {
         let kinds = kinds(reference);
         if self.len() != 0 && self.of_a_point != kinds.len() {
             return Err(format!("points of {} numbers, where the record's have {}", self.of_a_point, kinds.len()));
         }
-        let elements = self.elements.iter().zip(kinds.iter().cycle()).enumerate();
-        elements.map(|(index, (&element, &kind))| bits_of(index / kinds.len(), element, kind)).collect()
+        for (index, (&element, &kind)) in self.elements.iter().zip(kinds.iter().cycle()).enumerate() {
+            to.push(bits_of(index / kinds.len(), element, kind)?);
+        }
+        Ok(())
     }
 }
 
@@ -53,12 +78,6 @@ fn instead(element: Element, kind: ElementKind) -> String {
         (_, ElementKind::Long) => format!(", {} to {}", i32::MIN, i32::MAX),
         (Element::Bits(..), _) => format!("; their bits have {} digits", 2 * kind.width()),
         (Element::Number(number), _) => format!("; the nearest is {:?}", (number as f32).clamp(f32::MIN, f32::MAX)),
-    }
-}
-
-impl Serialize for Points {
-    fn serialize<S: Serializer>(&self, serializer: S) -> Result<S::Ok, S::Error> {
-        serializer.collect_seq(self.elements.chunks(self.of_a_point.max(1)))
     }
 }
 

@@ -118,7 +118,7 @@ mod tests {
         }
     }
 
-    /// Half of the longest sheet, and no character in it. If each escape had the rest of the text looked through, this would take hours.
+    /// 8 MiB, and no character in it. If each escape had the rest of the text looked through, this would take hours.
     #[test]
     fn a_long_text_without_characters_is_shown() {
         let units = vec![0xDC00; 4 << 20];

@@ -1,5 +1,6 @@
 //! The record table of a sheet that is written, out of the records' JSON lines.
 use crate::json::{ItemLine, PartLine, RecordLine};
+use crate::points::Points;
 use crate::text::Given;
 use std::borrow::Cow;
 use sxf::table::needs_mark;
@@ -48,7 +49,7 @@ impl Records {
 
     /// Adds a record's row and what it has in the pools. The numbers are the line's, also where they are too large for their fields: the
     /// library refuses such a table, and says where.
-    pub fn push(&mut self, line: usize, record: &RecordLine<'_>) -> Result<(), String> {
+    pub fn push(&mut self, line: usize, record: &RecordLine<'_, Points>) -> Result<(), String> {
         let &RecordLine { code, in_group, group, reference, generalisation, word, .. } = record;
         let (parts, items) = (record.parts.len() as u64, record.items.len() as u64);
         let row = row::Record { code, in_group, group, reference, generalisation, word, parts, items, mark: mark(record) };
@@ -63,7 +64,7 @@ impl Records {
         Ok(())
     }
 
-    fn push_part(&mut self, reference: u64, part: &PartLine<'_>) -> Result<(), String> {
+    fn push_part(&mut self, reference: u64, part: &PartLine<'_, Points>) -> Result<(), String> {
         let label = Given::of("label", &part.label, &part.label_bytes)?;
         // A number too large for the reference bytes is refused by the library before it looks at any text or point.
         let reference = u32::try_from(reference).ok().filter(|reference| reference >> 24 == 0).map(Reference);
@@ -74,7 +75,7 @@ impl Records {
         self.table.numbers.extend(row::Part { points: part.points.len() as u64, text_length: text.len() as u64 }.numbers());
         self.table.bytes.extend_from_slice(&text);
         if let Some(reference) = reference {
-            self.table.elements.extend(part.points.bits(reference)?);
+            part.points.add_bits(reference, &mut self.table.elements)?;
         }
         Ok(())
     }
@@ -116,7 +117,7 @@ fn count_meaning(row: &Row<'_>, points: u64) -> String {
 }
 
 /// The mark that a line states. Where it states none, its points say whether it is needed.
-fn mark(record: &RecordLine<'_>) -> u64 {
+fn mark(record: &RecordLine<'_, Points>) -> u64 {
     let points = record.parts.iter().map(|part| part.points.len() as u64);
     record.mark.unwrap_or_else(|| needs_mark(points).into())
 }

@@ -4,7 +4,7 @@ use crate::failure::Failure;
 use crate::hex::Hex;
 use crate::input;
 use crate::json::{HeadLine, ItemLine, PartLine, RecordLine, EDITION, FORMAT};
-use crate::points::Points;
+use crate::points::Stored;
 use crate::text;
 use serde::Serialize;
 use std::borrow::Cow;
@@ -57,7 +57,7 @@ fn head_line<'a>(head: &Head<'a>, tails: &Tails<'a>, as_bytes: bool, records: us
     }
 }
 
-fn record_line<'a>(record: &Record<'a>, as_bytes: bool) -> RecordLine<'a> {
+fn record_line<'a>(record: &Record<'a>, as_bytes: bool) -> RecordLine<'a, Stored<'a>> {
     RecordLine {
         code: record.code().into(),
         in_group: record.in_group().into(),
@@ -71,10 +71,10 @@ fn record_line<'a>(record: &Record<'a>, as_bytes: bool) -> RecordLine<'a> {
     }
 }
 
-fn part_line<'a>(reference: Reference, part: &Part<'a>, as_bytes: bool) -> PartLine<'a> {
+fn part_line<'a>(reference: Reference, part: &Part<'a>, as_bytes: bool) -> PartLine<'a, Stored<'a>> {
     let text = part.text().filter(|text| !text.bytes.is_empty());
     let (label, label_bytes) = text.map_or((None, None), |text| text::fields(&text, as_bytes));
-    PartLine { points: Points::of(reference, part.elements()), label, label_bytes }
+    PartLine { points: Stored::of(reference, part.elements()), label, label_bytes }
 }
 
 fn item_line<'a>(item: &Item<'a>, as_bytes: bool) -> ItemLine<'a> {

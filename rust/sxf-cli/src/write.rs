@@ -6,6 +6,7 @@ use crate::json::{HeadLine, RecordLine, FORMAT};
 use crate::lines::Lines;
 use crate::object::Object;
 use crate::output::{self, Target};
+use crate::points::Points;
 use crate::records::Records;
 use serde_json::Value;
 use std::io::{Read, Write};
@@ -15,8 +16,7 @@ use sxf::writer::check_head;
 use sxf::{Coding, Head, Refusal, Setting};
 
 pub fn run(json: &Path, target: &Target<'_>, setting: Setting, out: &mut dyn Write) -> Result<(), Failure> {
-    let mut lines = Lines::new(input::open(json)?);
-    let (head, records) = taken(&mut lines).map_err(|what| Failure::trouble(json, what))?;
+    let (head, records) = taken(Lines::new(input::open(json)?)).map_err(|what| Failure::trouble(json, what))?;
     let lent = head.lend();
     let sheet =
         sxf::write(&lent, records.table.lend(), setting).map_err(|refusal| told(json, &lent, &records, setting, refusal))?;
@@ -36,16 +36,16 @@ fn told(json: &Path, head: &Head<'_>, records: &Records, setting: Setting, refus
     Failure::Refused(format!("{}: {told}", json.display()))
 }
 
-/// The head and the records.
-fn taken<R: Read>(lines: &mut Lines<R>) -> Result<(OwnHead, Records), String> {
+/// The head and the records. The lines are given back with it, so that the longest is not in memory beside the sheet that is written.
+fn taken<R: Read>(mut lines: Lines<R>) -> Result<(OwnHead, Records), String> {
     if !lines.next()? {
         return Err("no line, where the head should be".to_string());
     }
-    let line = head_line(lines)?;
+    let line = head_line(&lines)?;
     let head = OwnHead::of(&line).map_err(|what| lines.told(&format!("the head: {what}")))?;
     let mut records = Records::new(labels(&head.lend(), lines.first()));
     while lines.next()? {
-        let record = record_line(lines)?;
+        let record = record_line(&lines)?;
         records.push(lines.first(), &record).map_err(|what| lines.told(&what))?;
     }
     match line.records {
@@ -91,7 +91,7 @@ fn head_line<R: Read>(lines: &Lines<R>) -> Result<HeadLine<'static>, String> {
 }
 
 /// A record. One of an older format may stand under a head of this one; its parts have a field that is none of this format.
-fn record_line<R: Read>(lines: &Lines<R>) -> Result<RecordLine<'static>, String> {
+fn record_line<R: Read>(lines: &Lines<R>) -> Result<RecordLine<'static, Points>, String> {
     let told = |what| {
         let why = lines.parsed().ok().and_then(|record| older(&record));
         why.map_or(what, |why| lines.told(&old_kind(why)))

@@ -7,7 +7,7 @@
 
 use crate::fields::{Carried, Rest};
 
-/// `sxf_checked`: a sheet's sum, its count of records, and the lengths of the three parts of its record table.
+/// `sxf_checked`: the low 32 bits of a sheet's sum, its count of records, and the lengths of the three parts of its record table.
 #[repr(C)]
 #[derive(Clone, Copy, Debug, Default, PartialEq, Eq)]
 pub struct Checked {

@@ -8,8 +8,8 @@ pub mod item;
 pub mod passport;
 pub mod subobject;
 
-/// "A sheet is at most 16,777,216 bytes" (01, What the base holds).
-pub const LIMIT: usize = 16_777_216;
+/// "City plans have outgrown the limit. Raise it to 67,108,864 bytes." (02, request 7).
+pub const LIMIT: usize = 67_108_864;
 
 /// Where the records start: after passport and descriptor.
 pub const START: usize = descriptor::RESERVED.after();

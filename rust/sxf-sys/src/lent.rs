@@ -11,8 +11,8 @@ pub fn version() -> u32 {
     unsafe { sxf_version() }
 }
 
-/// Sees to it that the archive has the record table and the structs that this crate declares: with others each record would be misread, or a longer
-/// answer written past the room for it.
+/// Sees to it that the archive has the record table, the structs and the blocks of an index that this crate declares: with others each record would be
+/// misread, a longer answer written past the room for it, or an index of another kind built.
 fn of_this_version() {
     assert_eq!(version(), VERSION, "libsxf.a is of another version than sxf-sys: run `rt staticlib sxf` again");
 }
@@ -167,11 +167,12 @@ pub fn from_utf16(coding: u32, units: &[u16], text: &mut [u8]) -> Written {
 
 /// Builds the code index of a sheet, whose length is [`index_length`](crate::index::index_length) of its records.
 pub fn index_build(sheet: &[u8], year: u32, index: &mut [u8]) -> Written {
+    of_this_version();
     // SAFETY: as `to_utf16`.
     unsafe { sxf_index_build(sheet.as_ptr(), sheet.len(), year, index.as_mut_ptr(), index.len()) }
 }
 
-/// Checks a code index.
+/// Checks a code index, of either kind.
 pub fn index_check(index: &[u8]) -> Index {
     // SAFETY: as `check`.
     unsafe { sxf_index_check(index.as_ptr(), index.len()) }
@@ -213,7 +214,8 @@ mod tests {
     use crate::codings::{DOS, KOI8, WINDOWS};
     use crate::dimensions::{HEIGHT, NORTH};
     use crate::fields::passport::{in_rest, FLAGS, HEIGHT_UNIT, REST};
-    use crate::refusals::{ASK, NO_CHARACTER, OK, ROOM, SEMANTIC, SHORT, TABLE, TEXT};
+    use crate::index::{BLOCK_SIZE, ENTRY_WIDTH, PICK_WIDTH};
+    use crate::refusals::{ASK, BAD_BLOCK, NO_CHARACTER, OK, ROOM, SEMANTIC, SHORT, TABLE, TEXT};
     use crate::{kinds, row, units};
 
     #[test]
@@ -301,6 +303,36 @@ mod tests {
         assert_eq!((first_with(Q, 0), frame_of(Q)), (record, record));
         assert_eq!(first_with(Q, 7), Hop { looked: 1, ..Hop::default() });
         assert_eq!(frame_of(&Q[..493]), Hop { number: SHORT, place: 456, ..Hop::default() });
+    }
+
+    /// A block with one entry, Q's record: code 0, the place in so many bytes, localisation 2; then zeros, two bytes for the kind, and the sum.
+    fn block_of_q(place: usize, kind: [u8; 2]) -> [u8; BLOCK_SIZE] {
+        let mut block = [0; BLOCK_SIZE];
+        block[2] = 1;
+        block[8..10].copy_from_slice(&452u16.to_le_bytes());
+        block[8 + place] = 2;
+        block[508..510].copy_from_slice(&kind);
+        let sum: u16 = block.iter().map(|&byte| u16::from(byte)).sum();
+        block[510..].copy_from_slice(&sum.to_le_bytes());
+        block
+    }
+
+    #[test]
+    fn an_index_is_built_in_the_new_kind_and_read_in_both() {
+        let (old, new) = (block_of_q(3, [0, 0]), block_of_q(4, [1, 0]));
+        let mut built = [9; BLOCK_SIZE];
+        assert_eq!(index_build(Q, 2017, &mut built), Written { length: 512, ..Written::default() });
+        assert!(built == new);
+        for block in [old, new] {
+            assert_eq!(index_check(&block), Index { entries: 1, blocks: 1, ..Index::default() });
+            let (mut entry, mut pick) = ([9; ENTRY_WIDTH], [9; PICK_WIDTH]);
+            let three = Written { length: 3, ..Written::default() };
+            assert_eq!((index_read(&block, &mut entry), index_select(&block, 0, &mut pick)), (three, three));
+            assert_eq!((entry, pick), ([0, 452, 2], [0, 452, 2]));
+        }
+        for none in [block_of_q(3, [0, 1]), block_of_q(4, [2, 0]), block_of_q(4, [1, 1])] {
+            assert_eq!(index_check(&none), Index { number: BAD_BLOCK, ..Index::default() });
+        }
     }
 
     #[test]

@@ -44,7 +44,7 @@ pub use fields::{Carried, Field, Rest, LIMIT};
 pub const MARK: u64 = 65_535;
 
 /// The version of `include/sxf.h` that this crate declares, `SXF_VERSION` there.
-pub const VERSION: u32 = 3;
+pub const VERSION: u32 = 4;
 
 // A length is 64 bits wide in the archive, which is for x86-64.
 const _: () = assert!(usize::BITS == 64);

@@ -1,4 +1,4 @@
-//! The refusals by the documents' numbers and names (01, The refusals; 02, requests 1, 3 and 6), as the answers have them; [`OK`] is an answer that is none.
+//! The refusals by the documents' numbers and names (01, The refusals; 02, requests 1, 3, 6 and 7), as the answers have them; [`OK`] is an answer that is none.
 
 /// No refusal.
 pub const OK: u64 = 0;
@@ -10,7 +10,7 @@ pub const SHORT: u64 = 2;
 pub const NOT_SXF: u64 = 3;
 /// A fixed length or the edition differs.
 pub const EDITION: u64 = 4;
-/// The sum differs.
+/// The sum, of which the low 32 bits are kept, differs.
 pub const SUM: u64 = 5;
 /// In reading a text field has no zero at all; in writing a text is too long for its field or has a zero in it; a closing zero is missing.
 pub const TEXT: u64 = 6;
@@ -36,5 +36,5 @@ pub const ROOM: u64 = 15;
 pub const ASK: u64 = 16;
 /// A byte of a text has no character in its coding, or a 16-bit unit has no byte.
 pub const NO_CHARACTER: u64 = 17;
-/// A block of a code index has a wrong length, number, count, filling or sum.
+/// A block of a code index has a wrong length, number, count, kind, filling or sum.
 pub const BAD_BLOCK: u64 = 18;

@@ -1,5 +1,5 @@
 //! A code index: a file beside a sheet that has the class code, the place and the localisation of each of its records, in record order (02,
-//! request 3).
+//! requests 3 and 7).
 //!
 //! ```
 //! use sxf::{Index, Setting, Sheet};
@@ -17,19 +17,27 @@
 //! # Ok::<(), Box<dyn std::error::Error>>(())
 //! ```
 //!
+//! # Old index files
+//!
+//! While places in a sheet had three bytes, a block had 63 entries; now it has [`BLOCK_FULL`]. "Old blocks stay readable, a file holds one kind only,
+//! and new ones are always written in the new kind" (02, request 7). So [`Index::read`] takes either kind, and its entries and selections are the same;
+//! what [`Index::build`] makes is of the new kind. Where a later block is of another kind than the first, it is BAD BLOCK at that block. An index that
+//! was read keeps the bytes that it had: to have it in the new kind, build it again.
+//!
 //! # Which sheet it belongs to
 //!
 //! An index does not say which sheet it was built from, and nothing in it can tell. "The selection is promised for an index built from that very
 //! sheet" (02, request 3): for that sheet [`Index::select`] gives what [`Sheet::select`](crate::Sheet::select) gives. The index of another sheet,
 //! or of this one before it was changed, is read and asked all the same, and gives that sheet's records. [`Sheet::record_of`] and
 //! [`Sheet::records_of`] then tell a pick that is no record of their sheet; but what such an index leaves out nobody can see by it. So keep an
-//! index beside its sheet and build it again after each change. Who has to be sure builds it again to compare:
+//! index beside its sheet and build it again after each change. Who has to be sure builds it again and compares the entries, since an old index
+//! file has other bytes:
 //!
 //! ```
 //! # let bytes = include_bytes!("../../../samples/mark-small.sxf");
 //! # let sheet = sxf::Sheet::read(bytes, sxf::Setting::Y2017)?;
 //! # let index = sxf::Index::build(include_bytes!("../../../samples/Q.sxf"), sxf::Setting::Y2017)?;
-//! let belongs = sheet.index()? == index;
+//! let belongs = sheet.index()?.entries().eq(index.entries());
 //! # assert!(!belongs);
 //! # Ok::<(), sxf::Refusal>(())
 //! ```
@@ -45,7 +53,7 @@ use sxf_sys::lent;
 
 pub use sxf_sys::index::{index_length, BLOCK_FULL, BLOCK_SIZE};
 
-/// How long an index is at most: "block number from 0 (2 bytes)" has no more blocks. That of a sheet is shorter.
+/// How long an index is at most, of either kind: "block number from 0 (2 bytes)" has no more blocks. That of a sheet is shorter.
 pub const LONGEST: usize = (u16::MAX as usize + 1) * BLOCK_SIZE;
 
 /// An index that was checked: its bytes.
@@ -81,8 +89,8 @@ impl Index {
         Index::read(bytes)
     }
 
-    /// Takes the bytes of an index that was kept, or refuses them: BAD BLOCK at the first byte of the first block that is wrong. What entries
-    /// hold is not judged.
+    /// Takes the bytes of an index that was kept, [old or new](crate::index#old-index-files), or refuses them: BAD BLOCK at the first byte of the first
+    /// block that is wrong. What entries hold is not judged.
     ///
     /// ```
     /// use sxf::{Index, Refusal};
@@ -112,7 +120,7 @@ impl Index {
         self.entries
     }
 
-    /// How many blocks they stand in: [`BLOCK_FULL`] in each but the last.
+    /// How many blocks they stand in: [`BLOCK_FULL`] in each but the last, and in an old index file 63.
     pub fn block_count(&self) -> usize {
         self.blocks
     }

@@ -51,7 +51,7 @@ macro_rules! named {
 }
 
 named! {
-    TOO_LONG "TOO LONG" "the sheet is longer than 16,777,216 bytes"
+    TOO_LONG "TOO LONG" "the sheet is longer than 67,108,864 bytes"
     SHORT "SHORT" "the sheet, or what is left of it for a record, is too short"
     NOT_SXF "NOT SXF" "an identifier differs, so this is no SXF sheet or it is damaged here"
     EDITION "EDITION" "a fixed length or the edition is not that of SXF 4.0"
@@ -68,7 +68,7 @@ named! {
     ROOM "ROOM" "a lent output is too small"
     ASK "ASK" "the year asked for is none of the nine settings, or there is no record of that number"
     NO_CHARACTER "NO CHARACTER" "a byte of the text has no character in its coding, or a character has no byte in it"
-    BAD_BLOCK "BAD BLOCK" "the block at this byte of the code index has a wrong length, number, count, filling or sum, so this is no index or it is damaged here"
+    BAD_BLOCK "BAD BLOCK" "the block at this byte of the code index has a wrong length, number, count, kind, filling or sum, so this is no index or it is damaged here"
 }
 
 impl Refusal {

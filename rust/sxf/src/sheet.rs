@@ -12,10 +12,10 @@ use crate::{Coding, Refusal, Setting};
 use sxf_sys::fields::passport;
 use sxf_sys::{lent, Field, Rest};
 
-/// What an accepted sheet has: its sum, its count of records, and the lengths of the three outputs of unfolding it.
+/// What an accepted sheet has: the low 32 bits of its sum, its count of records, and the lengths of the three outputs of unfolding it.
 #[derive(Clone, Copy, Debug, PartialEq, Eq)]
 pub struct Sizes {
-    /// The sum of its bytes.
+    /// The sum of its bytes, with the four at 12 counted as zero: "the sum may now pass 32 bits, and only its low 32 are kept" (02, request 7).
     pub sum: u32,
     /// How many records it has.
     pub records: usize,
@@ -126,7 +126,7 @@ impl<'a> Sheet<'a> {
         self.setting
     }
 
-    /// The sum of its bytes.
+    /// The low 32 bits of the sum of its bytes.
     pub fn sum(&self) -> u32 {
         self.sizes.sum
     }

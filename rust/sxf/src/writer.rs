@@ -113,9 +113,13 @@ impl<'a> Writer<'a> {
     /// # Ok::<(), Box<dyn std::error::Error>>(())
     /// ```
     pub fn push(&mut self, record: &NewRecord) -> Result<(), Misfit> {
-        let elements = record.elements(self.units)?;
+        let before = self.table.elements.len();
+        let added = record.add_elements(self.units, &mut self.table.elements);
+        if added.is_err() {
+            self.table.elements.truncate(before);
+            return added;
+        }
         self.table.numbers.extend(record.numbers());
-        self.table.elements.extend(elements);
         self.table.bytes.extend(record.parts.iter().flat_map(|part| &part.text));
         self.table.bytes.extend(record.items.iter().flat_map(|item| &item.bytes));
         Ok(())
@@ -231,16 +235,16 @@ impl NewRecord {
         record.numbers().into_iter().chain(parts).chain(items)
     }
 
-    fn elements(&self, units: Units) -> Result<Vec<u64>, Misfit> {
+    /// Adds the elements of all points, up to the first point that does not fit.
+    fn add_elements(&self, units: Units, elements: &mut Vec<u64>) -> Result<(), Misfit> {
         let (planar, height) = (self.reference.planar(), self.reference.height());
-        let mut elements = Vec::new();
         for (part, new) in self.parts.iter().enumerate() {
             for (number, point) in new.points.iter().enumerate() {
                 let misfit = |why| Misfit { part, point: number, why };
-                store(point, planar, height, units, &mut elements).map_err(misfit)?;
+                store(point, planar, height, units, elements).map_err(misfit)?;
             }
         }
-        Ok(elements)
+        Ok(())
     }
 }
 

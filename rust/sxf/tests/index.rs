@@ -1,10 +1,10 @@
 //! Code indexes: built, kept, read back and asked; and what comes of one that is damaged, or another sheet's.
 mod common;
 
-use common::{code, read, record, sample, written, CODES, FIRST_CODE};
+use common::{code, read, record, sample, whole_sum, written, CODES, FIRST_CODE};
 use sxf::fields::{header, passport, START};
 use sxf::index::{index_length, BLOCK_FULL, BLOCK_SIZE, LONGEST};
-use sxf::{select, Entry, Head, Index, Localisation, OtherSheet, Pick, Reference, Refusal, Setting, Sheet};
+use sxf::{select, Entry, Head, Index, Localisation, OtherSheet, Pick, Record, Reference, Refusal, Setting, Sheet};
 
 /// A sheet of so many records, of different lengths.
 fn sheet_of(records: usize) -> Vec<u8> {
@@ -16,47 +16,119 @@ fn built(sheet: &[u8]) -> Index {
     Index::build(sheet, Setting::Y2017).expect("an accepted sheet")
 }
 
-/// Counts of records around the ends of blocks.
-const COUNTS: [usize; 8] = [0, 1, 62, 63, 64, 126, 127, 700];
+/// Counts of records around the ends of blocks, of the new kind and of the old.
+const COUNTS: [usize; 13] = [0, 1, 55, 56, 57, 62, 63, 64, 112, 113, 126, 127, 700];
+
+/// A kind of blocks: how many entries a full one has, how many bytes the place of an entry, and the two bytes before the sum.
+struct Kind {
+    full: usize,
+    place: usize,
+    before_sum: [u8; 2],
+}
+
+/// "63 entries of 8 bytes (class code 4, record place 3, localisation 1), two zero bytes" (02, request 3).
+const OLD: Kind = Kind { full: 63, place: 3, before_sum: [0, 0] };
+
+/// "New blocks carry 56 entries of 9 bytes with a 4-byte place, and their two bytes before the sum hold 1 and 0 in place of zeros" (02, request 7).
+const NEW: Kind = Kind { full: 56, place: 4, before_sum: [1, 0] };
+
+/// A block by the document's words: "block number from 0 (2 bytes), entry count (2)", the entries, "unused entries are zero", the two bytes of its
+/// kind, "and the sum of the first 510 bytes modulo 65536" (02, request 3).
+fn block(kind: &Kind, number: u16, entries: &[Entry]) -> Vec<u8> {
+    let mut block = [number.to_le_bytes(), (entries.len() as u16).to_le_bytes()].concat();
+    for entry in entries {
+        block.extend(entry.code.to_le_bytes());
+        block.extend(&(entry.place as u32).to_le_bytes()[..kind.place]);
+        block.push(entry.localisation_number as u8);
+    }
+    block.resize(508, 0);
+    block.extend(kind.before_sum);
+    let sum = whole_sum(&block) as u16;
+    block.extend(sum.to_le_bytes());
+    block
+}
+
+/// An index of these entries. "Blocks are full except the last" (02, request 3).
+fn put_together(kind: &Kind, entries: &[Entry]) -> Vec<u8> {
+    (0..).zip(entries.chunks(kind.full)).flat_map(|(number, entries)| block(kind, number, entries)).collect()
+}
+
+/// What an index of a sheet has, by reading the whole sheet.
+fn entries_of(sheet: &Sheet<'_>) -> Vec<Entry> {
+    let of = |record: Record<'_>| Entry {
+        code: record.code(),
+        place: record.place(),
+        localisation_number: record.reference().localisation_number(),
+    };
+    sheet.records().map(of).collect()
+}
 
 #[test]
 fn an_index_has_an_entry_for_each_record() {
     for count in COUNTS {
         let bytes = sheet_of(count);
         let (sheet, index) = (read(&bytes), built(&bytes));
-        let of = |record: sxf::Record<'_>| Entry {
-            code: record.code(),
-            place: record.place(),
-            localisation_number: record.reference().localisation_number(),
-        };
-        assert_eq!(index.entries().collect::<Vec<_>>(), sheet.records().map(of).collect::<Vec<_>>(), "{count}");
+        assert_eq!(index.entries().collect::<Vec<_>>(), entries_of(&sheet), "{count}");
         assert_eq!((index.entry_count(), index.entries().len()), (count, count));
         assert_eq!((index.block_count(), index.bytes().len()), (count.div_ceil(BLOCK_FULL), index_length(count)), "{count}");
         assert_eq!(sheet.index().as_ref(), Ok(&index));
     }
 }
 
-/// "block number from 0 (2 bytes), entry count (2), 63 entries of 8 bytes (class code 4, record place 3, localisation 1), two zero bytes, and the
-/// sum of the first 510 bytes modulo 65536" (02, request 3).
+/// "New ones are always written in the new kind" (02, request 7).
 #[test]
 fn its_bytes_are_the_documents() {
-    let bytes = sheet_of(64);
-    let index = built(&bytes);
-    let (blocks, rest) = index.bytes().as_chunks::<BLOCK_SIZE>();
-    assert_eq!((blocks.len(), rest.len()), (2, 0));
-    let sheet = read(&bytes);
-    let mut records = sheet.records();
-    for (number, (block, count)) in (0u16..).zip(blocks.iter().zip([63u16, 1])) {
-        let mut due = [number.to_le_bytes(), count.to_le_bytes()].concat();
-        for record in records.by_ref().take(BLOCK_FULL) {
-            due.extend(record.code().to_le_bytes());
-            due.extend(&(record.place() as u32).to_le_bytes()[..3]);
-            due.push(record.reference().localisation_number() as u8);
+    for count in COUNTS {
+        let bytes = sheet_of(count);
+        assert!(built(&bytes).bytes() == put_together(&NEW, &entries_of(&read(&bytes))), "{count}");
+    }
+}
+
+/// "Old blocks stay readable" (02, request 7), and what is selected through them is the same.
+#[test]
+fn an_old_file_is_read_and_asked_as_a_new_one() {
+    for count in COUNTS {
+        let bytes = sheet_of(count);
+        let (sheet, new) = (read(&bytes), built(&bytes));
+        let file = put_together(&OLD, &entries_of(&sheet));
+        let old = Index::read(&file[..]).expect("an old index");
+        assert_eq!((old.entry_count(), old.block_count()), (count, count.div_ceil(OLD.full)));
+        assert!(old.entries().eq(new.entries()), "{count}");
+        for code in (FIRST_CODE - 1..=u32::MAX).chain([0]) {
+            assert!(old.select(code).eq(new.select(code)), "{code} of {count}");
         }
-        due.resize(510, 0);
-        let sum = due.iter().map(|&byte| u32::from(byte)).sum::<u32>();
-        due.extend((sum as u16).to_le_bytes());
-        assert!(block[..] == due[..], "block {number}");
+        // It stays what it was, and the one that is built is another file, unless both are empty.
+        assert_eq!((old.bytes() == file, old == new), (true, count == 0));
+    }
+}
+
+/// "A file holds one kind only" (02, request 7): its first block says which.
+#[test]
+fn a_block_of_the_other_kind_is_bad() {
+    let entries = [Entry { code: 7, place: START, localisation_number: 2 }; OLD.full];
+    let bad = |place| Err(Refusal { number: Refusal::BAD_BLOCK, place, year: 0 });
+    for (kind, other) in [(&OLD, &NEW), (&NEW, &OLD)] {
+        let full = |kind: &Kind, number| block(kind, number, &entries[..kind.full]);
+        let last = |kind, number| block(kind, number, &entries[..1]);
+        assert_eq!(Index::read([full(kind, 0), last(other, 1)].concat()), bad(BLOCK_SIZE));
+        assert_eq!(Index::read([full(kind, 0), full(other, 1), last(kind, 2)].concat()), bad(BLOCK_SIZE));
+        assert_eq!(Index::read([full(kind, 0), full(kind, 1), last(other, 2)].concat()), bad(2 * BLOCK_SIZE));
+        assert!(Index::read([full(kind, 0), full(kind, 1), last(kind, 2)].concat()).is_ok());
+    }
+    // 56 entries fill a block of the new kind, and not one of the old.
+    assert_eq!(Index::read([block(&OLD, 0, &entries[..NEW.full]), block(&OLD, 1, &entries[..1])].concat()), bad(0));
+}
+
+/// Any other two bytes before the sum are no kind.
+#[test]
+fn a_block_of_no_kind_is_bad() {
+    let entries = [Entry { code: 7, place: START, localisation_number: 2 }; NEW.full];
+    let bad = |place| Err(Refusal { number: Refusal::BAD_BLOCK, place, year: 0 });
+    for before_sum in [[0, 1], [1, 1], [2, 0], [0, 255], [255, 255]] {
+        for none in [Kind { before_sum, ..OLD }, Kind { before_sum, ..NEW }] {
+            assert_eq!(Index::read(block(&none, 0, &entries[..1])), bad(0), "{before_sum:?}");
+            assert_eq!(Index::read([block(&NEW, 0, &entries), block(&none, 1, &entries[..1])].concat()), bad(BLOCK_SIZE));
+        }
     }
 }
 
@@ -115,7 +187,7 @@ fn a_sheet_that_is_refused_has_no_index_and_no_selection() {
 
 #[test]
 fn a_bad_block_is_told_by_its_first_byte() {
-    let index = built(&sheet_of(64)).into_bytes();
+    let index = built(&sheet_of(57)).into_bytes();
     let bad = |place| Err(Refusal { number: Refusal::BAD_BLOCK, place, year: 0 });
     for place in 0..index.len() {
         let mut damaged = index.clone();
@@ -136,43 +208,35 @@ fn a_bad_block_is_told_by_its_first_byte() {
     assert!(told.starts_with("refusal 18 BAD BLOCK at 0 (0x0): the block at this byte of the code index has a wrong "), "{told}");
 }
 
-/// A block with a number of its own and so many entries of zeros.
-fn zeros(number: u16, count: u16) -> [u8; BLOCK_SIZE] {
-    let mut block = [0; BLOCK_SIZE];
-    block[..2].copy_from_slice(&number.to_le_bytes());
-    block[2..4].copy_from_slice(&count.to_le_bytes());
-    let sum: u16 = block[..4].iter().map(|&byte| u16::from(byte)).sum();
-    block[BLOCK_SIZE - 2..].copy_from_slice(&sum.to_le_bytes());
-    block
-}
-
 /// There are as many blocks as their numbers can tell apart; one more byte is a bad block.
 #[test]
 fn an_index_is_as_long_as_block_numbers_go() {
-    let mut bytes: Vec<u8> = (0..=u16::MAX).flat_map(|number| zeros(number, BLOCK_FULL as u16)).collect();
-    assert_eq!(bytes.len(), LONGEST);
-    bytes.push(0);
-    assert_eq!(Index::read(&bytes[..]), Err(Refusal { number: Refusal::BAD_BLOCK, place: LONGEST, year: 0 }));
-    bytes.pop();
-    let index = Index::read(bytes).expect("an index");
-    assert_eq!((index.block_count(), index.entry_count()), (65_536, 65_536 * BLOCK_FULL));
+    let entries = [Entry { code: 0, place: 0, localisation_number: 0 }; OLD.full];
+    for kind in [OLD, NEW] {
+        let mut bytes: Vec<u8> = (0..=u16::MAX).flat_map(|number| block(&kind, number, &entries[..kind.full])).collect();
+        assert_eq!(bytes.len(), LONGEST);
+        bytes.push(0);
+        assert_eq!(Index::read(&bytes[..]), Err(Refusal { number: Refusal::BAD_BLOCK, place: LONGEST, year: 0 }));
+        bytes.pop();
+        let index = Index::read(bytes).expect("an index");
+        assert_eq!((index.block_count(), index.entry_count()), (65_536, 65_536 * kind.full));
+    }
 }
 
 /// "Entries' contents are not judged": a localisation that no record has is handed on as its number.
 #[test]
 fn what_entries_hold_is_not_judged() {
-    let mut block = zeros(0, 1);
-    block[4..12].fill(0xFF);
-    block[BLOCK_SIZE - 2..].copy_from_slice(&(8 * 0xFF + 1u16).to_le_bytes());
-    let index = Index::read(block).expect("an index");
-    let entry = Entry { code: u32::MAX, place: 0xFF_FFFF, localisation_number: 0xFF };
-    assert_eq!(index.entries().collect::<Vec<_>>(), [entry]);
-    let pick = Pick { code: u32::MAX, record: 0, place: 0xFF_FFFF, localisation_number: 0xFF };
-    assert_eq!(index.select(u32::MAX).collect::<Vec<_>>(), [pick]);
-    assert_eq!((entry.localisation(), pick.localisation()), (None, None));
-    let vector = Entry { localisation_number: 4, ..entry };
-    assert_eq!(vector.localisation(), Some(Localisation::Vector));
-    assert_eq!(Pick { localisation_number: 5, ..pick }.localisation(), Some(Localisation::LabelTemplate));
+    for (kind, place) in [(OLD, 0xFF_FFFF), (NEW, 0xFFFF_FFFF)] {
+        let entry = Entry { code: u32::MAX, place, localisation_number: 0xFF };
+        let index = Index::read(block(&kind, 0, &[entry])).expect("an index");
+        assert_eq!(index.entries().collect::<Vec<_>>(), [entry]);
+        let pick = Pick { code: u32::MAX, record: 0, place, localisation_number: 0xFF };
+        assert_eq!(index.select(u32::MAX).collect::<Vec<_>>(), [pick]);
+        assert_eq!((entry.localisation(), pick.localisation()), (None, None));
+        let vector = Entry { localisation_number: 4, ..entry };
+        assert_eq!(vector.localisation(), Some(Localisation::Vector));
+        assert_eq!(Pick { localisation_number: 5, ..pick }.localisation(), Some(Localisation::LabelTemplate));
+    }
 }
 
 /// The numbers of the records, or the picks that are none of the sheet's.

@@ -410,16 +410,16 @@ fn the_limit_is_the_librarys() {
 #[test]
 fn many_points_are_written_with_the_mark() {
     let table = |points: u64| {
-        let record =
-            row::Record { code: 7, generalisation: 255, word: points, parts: 1, mark: 1, ..row::Record::default() }.numbers();
-        let numbers = [&record[..], &row::Part { points, text_length: 0 }.numbers()].concat();
+        let reference = (Reference::FLOATING | Reference::ELEMENT_SIZE).into();
+        let record = row::Record { code: 7, reference, generalisation: 255, word: points, parts: 1, mark: 1, ..Default::default() };
+        let numbers = [&record.numbers()[..], &row::Part { points, text_length: 0 }.numbers()].concat();
         Table { numbers, elements: vec![1; 2 * points as usize], bytes: Vec::new() }
     };
     let marked = table(70_000);
     let bytes = write(&Head::PLAIN, marked.lend(), Setting::Y2004).expect("a sheet");
     assert_eq!(read(&bytes).table(), marked.lend());
     assert_eq!(write(&Head::PLAIN, marked.lend(), Setting::Y1999).expect_err("the mark").name(), "TOO NEW");
-    assert_eq!(write(&Head::PLAIN, table(5_000_000).lend(), Setting::Y2017).expect_err("20 MB").name(), "TOO LONG");
+    assert_eq!(write(&Head::PLAIN, table(4_200_000).lend(), Setting::Y2017).expect_err("67.2 MB").name(), "TOO LONG");
 }
 
 fn walk(sheet: &Sheet<'_>) -> usize {

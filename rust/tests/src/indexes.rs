@@ -1,11 +1,12 @@
-//! Code indexes of sheets, and indexes of entries that may be any.
+//! Code indexes of sheets, and indexes of entries that may be any, in old blocks
+//! and in new ones.
 
 use crate::blocks::{
-    block_count, block_range, entries, index_of, number_at, put, put_sum_right, sum_before, used, CODE, COUNT, ENTRIES, NUMBER,
-    SUM, ZEROS,
+    block_count, block_of, block_range, entries, full, index_of, number_at, other, put, put_sum_right, sum_before, used, Entry,
+    CODE, COUNT, ENDING, ENTRIES, KINDS, NUMBER, OLD_FULL, SUM,
 };
 use crate::heads::{head, NO_SETTINGS, SETTINGS};
-use crate::index_damage::{damage, wrong_numbers, wrong_sums, COUNTS};
+use crate::index_damage::{damage, wrong_numbers, wrong_sums, COUNTS, ENDINGS};
 use crate::judge::Judge;
 use crate::numbers::Numbers;
 use crate::phases::not_before;
@@ -13,12 +14,18 @@ use crate::places::places;
 use crate::sheet_damage;
 use crate::sheets::{self, edited, setting, Made};
 use crate::tables::{rows, table, Sizes};
+use second::BlockKind;
 use sxf_sys::fields::{header, passport};
 use sxf_sys::index::{BLOCK_FULL, BLOCK_SIZE};
 use sxf_sys::row;
 
-/// How many records sheets have: about as many as fill no block, one or two.
-const SIZES: [usize; 7] = [0, 1, BLOCK_FULL - 1, BLOCK_FULL, BLOCK_FULL + 1, 2 * BLOCK_FULL, 2 * BLOCK_FULL + 1];
+/// How many records sheets have: about as many as fill no block, one or two, in
+/// either kind.
+#[rustfmt::skip]
+const SIZES: [usize; 12] = [
+    0, 1, BLOCK_FULL - 1, BLOCK_FULL, BLOCK_FULL + 1, OLD_FULL - 1, OLD_FULL, OLD_FULL + 1,
+    2 * BLOCK_FULL, 2 * BLOCK_FULL + 1, 2 * OLD_FULL, 2 * OLD_FULL + 1,
+];
 
 /// How many cases there are for each of these sizes and each setting.
 pub const EACH_SIZE: u64 = (SIZES.len() * SETTINGS.len()) as u64;
@@ -26,13 +33,13 @@ pub const EACH_SIZE: u64 = (SIZES.len() * SETTINGS.len()) as u64;
 /// The most blocks of the indexes that are gone through byte by byte.
 const BLOCKS: u64 = 3;
 
-/// How many cases there are for each count of the last block, and each number
-/// of blocks.
-pub const EACH_BLOCK: u64 = BLOCKS * BLOCK_FULL as u64;
+/// How many cases there are for each kind, each count of the last block, and
+/// each number of blocks.
+pub const EACH_BLOCK: u64 = BLOCKS * (OLD_FULL + BLOCK_FULL) as u64;
 
-/// Two or more codes to choose from. They are likely to be taken for one another: the first
-/// and the last that there are, and some that differ in one byte or in the order
-/// of their bytes.
+/// Two or more codes to choose from. They are likely to be taken for one another:
+/// the first and the last that there are, and some that differ in one byte or in
+/// the order of their bytes.
 pub fn codes(numbers: &mut Numbers) -> Vec<u32> {
     let own = numbers.any() as u32;
     let byte = 8 * numbers.below(4) as u32;
@@ -130,40 +137,46 @@ pub fn drawn(judge: &mut Judge, numbers: &mut Numbers) {
 fn any_count(numbers: &mut Numbers) -> usize {
     match numbers.below(16) {
         0..=5 => numbers.pick(&SIZES),
-        6 | 7 => numbers.index(10 * BLOCK_FULL),
-        _ => numbers.index(2 * BLOCK_FULL + 2),
+        6 | 7 => numbers.index(10 * OLD_FULL),
+        _ => numbers.index(2 * OLD_FULL + 2),
     }
 }
 
 /// An index of entries that may be any, right or damaged.
 pub fn damaged(judge: &mut Judge, numbers: &mut Numbers) {
-    let (codes, count) = (codes(numbers), any_count(numbers));
+    let (kind, codes, count) = (numbers.pick(&KINDS), codes(numbers), any_count(numbers));
     let entries = entries(numbers, &codes, count);
-    let mut index = index_of(&entries);
-    judge.note(format!("an index of {count} entries"));
+    let mut index = index_of(kind, &entries);
+    judge.note(format!("an index of {count} entries, {kind:?}"));
     if numbers.chance(3, 4) {
-        let notes = damage(numbers, &mut index);
+        let notes = damage(numbers, kind, &mut index);
         judge.notes.extend(notes);
     }
     let asked = [numbers.pick(&codes), numbers.of_bits(32) as u32];
     judge.accepted = judge.index(&index, &asked, numbers);
 }
 
-/// An index whose last block has one of all counts: each byte of it altered,
-/// with the sum put right and without; each field of each block set to what it
-/// is likely to be taken for; and each length.
+/// An index of one kind whose last block has one of all counts: each byte of it
+/// altered, with the sum put right and without; each field of each block set to
+/// what it is likely to be taken for; each block of the other kind; and each
+/// length.
 pub fn block(judge: &mut Judge, case: u64, numbers: &mut Numbers) {
-    let (blocks, last) = (case as usize / BLOCK_FULL, 1 + case as usize % BLOCK_FULL);
+    let (kind, case) = match (case as usize).checked_sub(BLOCKS as usize * OLD_FULL) {
+        None => (BlockKind::Old, case as usize),
+        Some(case) => (BlockKind::New, case),
+    };
+    let (blocks, last) = (case / full(kind), 1 + case % full(kind));
     let codes = codes(numbers);
-    let entries = entries(numbers, &codes, blocks * BLOCK_FULL + last);
-    let index = index_of(&entries);
-    judge.note(format!("{} blocks, the last of {last} entries", blocks + 1));
+    let entries = entries(numbers, &codes, blocks * full(kind) + last);
+    let index = index_of(kind, &entries);
+    judge.note(format!("{} blocks, {kind:?}, the last of {last} entries", blocks + 1));
     judge.accepted = judge.index(&index, &codes, numbers);
     let code = numbers.pick(&codes);
-    let mut each = Each { judge, numbers, code };
+    let mut each = Each { judge, numbers, kind, code };
     each.byte(&index);
     for number in 0..=blocks {
         each.fields(&index, number);
+        each.kind(&index, number);
     }
     each.length(&index);
 }
@@ -172,6 +185,7 @@ pub fn block(judge: &mut Judge, case: u64, numbers: &mut Numbers) {
 struct Each<'a> {
     judge: &'a mut Judge,
     numbers: &'a mut Numbers,
+    kind: BlockKind,
     code: u32,
 }
 
@@ -212,8 +226,8 @@ impl Each<'_> {
             put_sum_right(block);
             self.ask(&altered, || format!("count {other} in block {number}"));
             let block = &mut altered[range.clone()];
-            let used = used(block);
-            block[used..ZEROS.place].fill(0);
+            let used = used(self.kind, block);
+            block[used..ENDING.place].fill(0);
             put_sum_right(block);
             self.ask(&altered, || format!("count {other} in block {number}, and unused entries zero"));
             altered[range.clone()].copy_from_slice(own);
@@ -225,6 +239,32 @@ impl Each<'_> {
         }
     }
 
+    /// Other endings alone; and in place of the block one of the other kind, with
+    /// as many entries as make it right there or wrong, or with one of zeros,
+    /// which has the same bytes in both kinds.
+    fn kind(&mut self, index: &[u8], number: usize) {
+        let range = block_range(index, number);
+        let mut altered = index.to_vec();
+        for other in ENDINGS {
+            let block = &mut altered[range.clone()];
+            put(block, ENDING, other);
+            put_sum_right(block);
+            self.ask(&altered, || format!("ending {other:#x} of block {number}"));
+            altered[range.clone()].copy_from_slice(&index[range.clone()]);
+        }
+        let kind = other(self.kind);
+        for count in [1, 2, full(self.kind).min(full(kind)), full(kind)] {
+            let entries = entries(self.numbers, &[self.code], count);
+            altered[range.clone()].copy_from_slice(&block_of(kind, number, &entries));
+            self.ask(&altered, || format!("block {number} of the other kind, with {count} entries"));
+        }
+        let zeros = [Entry::of_all(0)];
+        altered[range.clone()].copy_from_slice(&block_of(self.kind, number, &zeros));
+        self.ask(&altered, || format!("block {number} with one entry, of zeros"));
+        altered[range.clone()].copy_from_slice(&block_of(kind, number, &zeros));
+        self.ask(&altered, || format!("block {number} of the other kind, with one entry, of zeros"));
+    }
+
     /// Each length up to the whole, and some pieces after it, of which the last
     /// is a whole block: after a full one, of the right number, it would be
     /// right but for its count.
@@ -232,14 +272,16 @@ impl Each<'_> {
         for length in 0..index.len() {
             self.ask(&index[..length], || format!("cut to {length} bytes"));
         }
-        let mut next = vec![0; BLOCK_SIZE];
-        put(&mut next, NUMBER, block_count(index));
-        put_sum_right(&mut next);
+        let [own, others] = [self.kind, other(self.kind)].map(|kind| block_of(kind, block_count(index), &[]));
         for length in [1, 2, CODE.after(), BLOCK_SIZE - 1, BLOCK_SIZE] {
-            for more in [&next, &vec![0; BLOCK_SIZE], index] {
+            for more in [&own[..], &others, &[0; BLOCK_SIZE], index] {
                 let longer = [index, &more[..length]].concat();
                 self.ask(&longer, || format!("{length} bytes more"));
             }
+        }
+        for kind in KINDS {
+            let longer = [index, &block_of(kind, block_count(index), &[Entry::of_all(0)])].concat();
+            self.ask(&longer, || format!("a block more, {kind:?}"));
         }
     }
 }

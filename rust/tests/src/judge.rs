@@ -55,6 +55,9 @@ pub enum Care {
     Whole,
     /// Every call, once or twice.
     Once,
+    /// Once what goes through all of a large sheet: to check, to unfold, to index,
+    /// to hop over and to write it.
+    Large,
     /// Only whether it is accepted.
     Check,
 }

@@ -3,6 +3,7 @@
 //! are worked out by hand. Both the archive and `second` must give these.
 
 mod hops;
+mod indexes;
 mod tails;
 
 use crate::archive;
@@ -13,13 +14,13 @@ use second::Refusal;
 use sxf_sys::codings::{DOS, KOI8, WINDOWS};
 use sxf_sys::dimensions::{EAST, HEIGHT, NORTH};
 use sxf_sys::fields::{descriptor, header, passport, START};
-use sxf_sys::index::BLOCK_SIZE;
 use sxf_sys::reference::{ELEMENT_SIZE, FLOATING, SEMANTICS, THREE_DIMENSIONS};
-use sxf_sys::refusals::{ASK, BAD_BLOCK, COUNT, NO_CHARACTER, OK, ROOM, SEMANTIC, SHORT, SUM, TABLE, TEXT, TOO_NEW};
+use sxf_sys::refusals::{ASK, COUNT, NO_CHARACTER, OK, ROOM, SEMANTIC, SHORT, SUM, TABLE, TEXT, TOO_NEW};
 use sxf_sys::{kinds, row, units, years};
 
-/// The first of the hops, and of the tails.
-const FIRST_HOP: u64 = 19;
+/// The first of the code indexes, of the hops, and of the tails.
+const FIRST_INDEX: u64 = 18;
+const FIRST_HOP: u64 = FIRST_INDEX + indexes::CASES;
 const FIRST_TAIL: u64 = FIRST_HOP + hops::CASES;
 
 /// How many there are.
@@ -121,7 +122,7 @@ pub fn run(judge: &mut Judge, case: u64) {
         15 => texts(judge),
         16 => lake_read(judge),
         17 => lake_written(judge),
-        18 => index_of_p(judge),
+        FIRST_INDEX..FIRST_HOP => indexes::run(judge, case - FIRST_INDEX),
         FIRST_HOP..FIRST_TAIL => hops::run(judge, case - FIRST_HOP),
         _ => tails::run(judge, case - FIRST_TAIL),
     }
@@ -343,46 +344,4 @@ fn texts(judge: &mut Judge) {
         judge.text(coding, &text, &mut numbers);
     }
     judge.accepted = true;
-}
-
-/// The index of sheet P, whose record has code 0, place 452, which is 0x1C4, and
-/// localisation 2. The sum is 1 + 196 + 1 + 2.
-fn index_of_p(judge: &mut Judge) {
-    let mut block = [0; BLOCK_SIZE];
-    block[..12].copy_from_slice(&[0, 0, 1, 0, 0, 0, 0, 0, 0xC4, 1, 0, 2]);
-    block[510] = 200;
-    let none = archive::Written::default();
-    let length = |length| archive::Written { length, ..none };
-    let refused = |number, place| archive::Written { number, place, ..none };
-    let (sheet, mut numbers) = (sheet_p(), Numbers::of_case(0, 0, 0));
-
-    let mut built = [9; BLOCK_SIZE];
-    let answer = archive::index_build(&sheet, 1999, &mut built);
-    judge.same(|| "P's index".into(), (answer, built), (length(512), block));
-    let due = archive::Index { entries: 1, blocks: 1, ..archive::Index::default() };
-    judge.same(|| "P's index, checked".into(), archive::index_check(&block), due);
-    let mut entries = [9; 4];
-    let answer = archive::index_read(&block, &mut entries);
-    judge.same(|| "P's index, read".into(), (answer, entries), (length(3), [0, 452, 2, 9]));
-    for (code, due) in [(0, (length(3), [0, 452, 2, 9])), (1, (none, [9; 4]))] {
-        let (mut by_index, mut from_sheet) = ([9; 4], [9; 4]);
-        let answer = archive::index_select(&block, code, &mut by_index);
-        judge.same(|| format!("code {code} by P's index"), (answer, by_index), due);
-        let answer = archive::select(&sheet, 1999, code, &mut from_sheet);
-        judge.same(|| format!("code {code} of P"), (answer, from_sheet), due);
-    }
-    judge.same(|| "P's index without room".into(), archive::index_build(&sheet, 1999, &mut [9; 511]), refused(ROOM, 0));
-    judge.same(|| "P without room".into(), archive::select(&sheet, 1999, 0, &mut [9; 2]), refused(ROOM, 0));
-    judge.accepted = judge.indexed(&sheet, 1999, &[0, 1], &mut numbers);
-    // A second block of wrong number, and a piece: the first is then not full.
-    let twice = [block, block].concat();
-    for (name, index, place) in
-        [("P's index twice", &twice[..], 0), ("a piece after P's index", &twice[..513], 0), ("a piece of it", &block[..511], 0)]
-    {
-        judge.same(|| name.into(), archive::index_read(index, &mut []), refused(BAD_BLOCK, place));
-        judge.index(index, &[0], &mut numbers);
-    }
-    // An empty sheet has no blocks.
-    judge.same(|| "E's index".into(), archive::index_build(&sheet_e(), 1999, &mut []), none);
-    judge.same(|| "E's index, checked".into(), archive::index_check(&[]), archive::Index::default());
 }

@@ -29,6 +29,7 @@ pub mod reasons;
 pub mod sheet_damage;
 pub mod sheets;
 pub mod stored;
+pub mod sums;
 pub mod table_damage;
 pub mod tables;
 pub mod tails;

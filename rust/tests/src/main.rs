@@ -94,11 +94,12 @@ impl Outcome {
     }
 }
 
-/// Runs a phase; case after case goes to one thread and the other. What is
-/// found does not depend on that.
+/// Runs a phase; case after case goes to one thread and the other, but large
+/// ones to one alone, so that no two of them are in memory. What is found does
+/// not depend on that.
 fn run_phase(phase: Phase, options: &Options) -> Outcome {
     let (cases, seed) = (phase.cases(options.times), options.seed);
-    let threads = if options.trace { 1 } else { THREADS };
+    let threads = if options.trace || phase.is_large() { 1 } else { THREADS };
     let share = |thread: u64| {
         let mut outcome = Outcome::default();
         let mut judge = Judge::default();
@@ -178,7 +179,7 @@ fn print_reasons(tally: &Tally) {
     for (reason, met) in &tally.reasons {
         let at = format!("{:?} {:2} {:?}", reason.way, reason.number, reason.at);
         let year = reason.year;
-        println!("{at:40}{year:>5}{met:>8}");
+        println!("{at:46}{year:>5}{met:>8}");
     }
     println!("\ncases in which each feature was accepted");
     for (feature, met) in tally.features.iter().enumerate() {
@@ -199,8 +200,9 @@ fn print_reasons(tally: &Tally) {
     }
     println!("items: kinds 0 to 5 {:?}", tally.items);
     println!("codings 0 to 2: there {:?}, back {:?}", tally.there, tally.back);
-    println!("indexes by the entries of their last block: {:?}", tally.last_counts);
-    println!("built indexes by the bytes of their last place, 2 or 3: {:?}", tally.places);
+    println!("sums of accepted sheets within 32 bits, and past them: {:?}", tally.sums);
+    println!("indexes, old and new, by the entries of their last block: {:?}", tally.last_counts);
+    println!("built indexes by the bytes of their last place, 2 to 4: {:?}", tally.places);
     println!("no hit, one, more: by an index {:?}, from a sheet {:?}", tally.hits[BY_INDEX], tally.hits[FROM_SHEET]);
     println!("selected localisations 0 to 5: {:?}", tally.localisations);
     println!("hops that ended at {ENDS:?}: by code {:?}, to the frame {:?}", tally.ends[BY_CODE], tally.ends[TO_FRAME]);

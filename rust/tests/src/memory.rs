@@ -7,6 +7,9 @@ use std::hint::black_box;
 /// Cells before and after the lent slice.
 const GUARD: usize = 16;
 
+/// The most cells that are kept from one case to the next.
+const KEPT: usize = 1 << 20;
+
 /// What memory is made of.
 pub trait Cell: Copy + Eq {
     /// What an untouched cell holds.
@@ -44,9 +47,13 @@ impl<T: Cell> Memory<T> {
         Memory { cells: Vec::new(), start: GUARD, length: 0, salt: 0 }
     }
 
-    /// From here on, what is lent depends on the salt alone.
+    /// From here on, what is lent depends on the salt alone. Memory that was lent
+    /// for a large sheet is not kept.
     pub fn reset(&mut self, salt: u64) {
         self.salt = salt;
+        if self.cells.capacity() > KEPT {
+            *self = Memory { salt, ..Memory::new() };
+        }
     }
 
     /// A slice of this length, untouched, at one of eight alignments.

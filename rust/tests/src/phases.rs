@@ -13,6 +13,7 @@ use crate::numbers::Numbers;
 use crate::places::places;
 use crate::sheet_damage;
 use crate::sheets::{setting, small_sheet, Made};
+use crate::sums;
 use crate::table_damage;
 use crate::tables::{small, table};
 use crate::texts;
@@ -73,9 +74,11 @@ pub enum Phase {
     EachHop,
     /// Hops over sheets that are drawn, right or damaged.
     Hops,
+    /// Sheets whose sum is about 32 bits or passes them.
+    Sums,
 }
 
-pub const PHASES: [Phase; 24] = [
+pub const PHASES: [Phase; 25] = [
     Phase::Known,
     Phase::Visibility,
     Phase::Values,
@@ -85,6 +88,7 @@ pub const PHASES: [Phase; 24] = [
     Phase::Texts,
     Phase::Empty,
     Phase::Limits,
+    Phase::Sums,
     Phase::EachBit,
     Phase::EachCut,
     Phase::EachByte,
@@ -110,6 +114,7 @@ impl Phase {
             Phase::Values => "values",
             Phase::Empty => "empty",
             Phase::Limits => "limits",
+            Phase::Sums => "sums",
             Phase::EachBit => "each-bit",
             Phase::EachCut => "each-cut",
             Phase::EachByte => "each-byte",
@@ -140,6 +145,7 @@ impl Phase {
             Phase::Visibility | Phase::Coordinates | Phase::EachByte | Phase::EachUnit => 256,
             Phase::Values => VALUES,
             Phase::Limits => limits::CASES,
+            Phase::Sums => sums::CASES,
             Phase::Empty => 1024,
             Phase::EachBit => 60 * times,
             Phase::EachCut => 60 * times,
@@ -160,6 +166,11 @@ impl Phase {
         }
     }
 
+    /// Whether a case of it takes hundreds of MB.
+    pub fn is_large(self) -> bool {
+        matches!(self, Phase::Limits | Phase::Sums)
+    }
+
     /// Whether its cases are drawn at random.
     pub fn is_drawn(self) -> bool {
         self.cases(2) > self.cases(1)
@@ -175,6 +186,7 @@ impl Phase {
             Phase::Values => values(judge, numbers, case),
             Phase::Empty => empty(judge, numbers, case),
             Phase::Limits => limits::run(judge, case, numbers),
+            Phase::Sums => sums::run(judge, case, numbers),
             Phase::EachByte => each::byte(judge, case as u8, numbers),
             Phase::EachBit | Phase::EachCut | Phase::Sheets | Phase::DamagedSheets => self.with_sheet(judge, numbers),
             Phase::EachNumber | Phase::Tables | Phase::DamagedTables => self.with_table(judge, numbers),

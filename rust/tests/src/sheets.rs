@@ -58,6 +58,24 @@ pub fn written(year: u32, head: Head, table: Table) -> Made {
     Made { year, head, table, sheet }
 }
 
+/// How many sums there are: "only its low 32 [bits] are kept" (document 02,
+/// request 7).
+pub const SUMS: u64 = 1 << 32;
+
+/// The whole sum of the bytes of a sheet but for those of its own sum, before it
+/// is cut to 32 bits.
+pub fn whole_sum(sheet: &[u8]) -> u64 {
+    let of = |bytes: &[u8]| bytes.iter().map(|&byte| u64::from(byte)).sum::<u64>();
+    of(&sheet[..SUM.place]) + of(&sheet[SUM.after()..])
+}
+
+/// Whether the whole sum of a sheet takes more than 32 bits, as no sheet's does
+/// that is too short for it.
+pub fn passes_32_bits(sheet: &[u8]) -> bool {
+    let most = 255 * sheet.len() as u64;
+    most >= SUMS && whole_sum(sheet) >= SUMS
+}
+
 /// Puts the sum right, if the sheet is long enough to have one.
 pub fn put_sum_right(sheet: &mut [u8]) {
     if sheet.len() >= SUM.after() {

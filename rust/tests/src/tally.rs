@@ -1,11 +1,11 @@
 //! What was met: each refusal of each call, and each reason for one.
 
-use crate::blocks::{Fault, Stands};
+use crate::blocks::{full, Fault, Stands, KINDS as BLOCK_KINDS, OLD_FULL};
 use crate::features;
 use crate::tails::{self, KINDS as TAIL_KINDS};
+use second::BlockKind;
 use std::collections::BTreeMap;
 use sxf_sys::fields::{descriptor, header, passport};
-use sxf_sys::index::BLOCK_FULL;
 use sxf_sys::refusals::*;
 use sxf_sys::{codings, kinds, row, units, years};
 
@@ -119,8 +119,9 @@ pub enum Where {
     InnerCharacter,
     /// At the last, which is not the first.
     LastCharacter,
-    /// At a block of a code index that stands there and has this fault alone.
-    Block(Stands, Fault),
+    /// At a block of a code index of this kind, or of neither, that stands there
+    /// and has this fault alone.
+    Block(Option<BlockKind>, Stands, Fault),
     /// At a lent slice.
     Lent(u64),
     /// At the question itself.
@@ -176,15 +177,17 @@ pub struct Tally {
     pub there: [u64; CODINGS],
     /// The codings of texts that were turned back.
     pub back: [u64; CODINGS],
-    /// The code indexes that were accepted, by the entries of their last block;
-    /// at 0 there was no block.
-    pub last_counts: [u64; BLOCK_FULL + 1],
+    /// The sheets that were accepted whose sum took no more than 32 bits, or more.
+    pub sums: [u64; 2],
+    /// The code indexes that were accepted, by their kind and by the entries of
+    /// their last block; at 0 of the new kind there was no block.
+    pub last_counts: [[u64; OLD_FULL + 1]; BLOCK_KINDS.len()],
     /// The selections by an index and from a sheet that had no hit, one, more.
     pub hits: [[u64; 3]; 2],
     /// The localisations of records that were selected from sheets.
     pub localisations: [u64; 6],
-    /// The indexes that were built whose last place took two bytes, or three.
-    pub places: [u64; 2],
+    /// The indexes that were built whose last place took two bytes, three or four.
+    pub places: [u64; 3],
     /// Where hops ended that were not refused: by code, and to the frame.
     pub ends: [[u64; ENDS.len()]; 2],
 }
@@ -203,6 +206,10 @@ pub enum End {
 }
 
 pub const ENDS: [End; 5] = [End::NoRecord, End::NoHit, End::FirstRecord, End::InnerRecord, End::LastRecord];
+
+/// How often what takes a large sheet must be met: there are few, since each
+/// takes the time of thousands of others.
+const LEAST_OF_LARGE: u64 = 5;
 
 /// Which of the two hops it was.
 pub const BY_CODE: usize = 0;
@@ -248,7 +255,8 @@ impl Default for Tally {
             items: Default::default(),
             there: Default::default(),
             back: Default::default(),
-            last_counts: [0; BLOCK_FULL + 1],
+            sums: Default::default(),
+            last_counts: [[0; OLD_FULL + 1]; BLOCK_KINDS.len()],
             hits: Default::default(),
             localisations: Default::default(),
             places: Default::default(),
@@ -279,7 +287,8 @@ impl Tally {
         add(&mut self.items, &other.items);
         add(&mut self.there, &other.there);
         add(&mut self.back, &other.back);
-        add(&mut self.last_counts, &other.last_counts);
+        add(&mut self.sums, &other.sums);
+        add(self.last_counts.as_flattened_mut(), other.last_counts.as_flattened());
         add(self.hits.as_flattened_mut(), other.hits.as_flattened());
         add(&mut self.localisations, &other.localisations);
         add(&mut self.places, &other.places);
@@ -289,20 +298,23 @@ impl Tally {
         }
     }
 
-    /// Whatever was met less often than `least` times.
+    /// Whatever was met less often than `least` times, or than
+    /// [`LEAST_OF_LARGE`] where it takes a large sheet.
     pub fn missing(&self, least: u64) -> Vec<String> {
         let mut missing = Vec::new();
         for call in CALLS {
             for &number in call.refusals() {
                 let met = self.answers[call as usize][number as usize];
-                if met < least {
+                let writes_too_long = call == Call::Write && number == TOO_LONG;
+                if met < if writes_too_long { LEAST_OF_LARGE } else { least } {
                     missing.push(format!("{call:?} gave refusal {number} in {met} cases"));
                 }
             }
         }
         for reason in due() {
             let met = self.reasons.get(&reason).copied().unwrap_or(0);
-            if met < least {
+            let writes_too_long = reason.way == Way::Write && reason.number == TOO_LONG;
+            if met < if writes_too_long { LEAST_OF_LARGE } else { least } {
                 missing.push(format!("{reason:?} was met in {met} cases"));
             }
         }
@@ -360,16 +372,25 @@ impl Tally {
     /// Whatever code indexes and selections were less often than `least` times.
     fn missing_indexes(&self, least: u64) -> Vec<String> {
         let [by_index, from_sheet] = &self.hits;
+        let [_, past] = self.sums;
+        let [two_bytes, three_bytes, four_bytes] = self.places;
         let mut missing = Vec::new();
         for (met, name) in [
-            (&self.last_counts[..], "an index whose last block has entries:"),
-            (by_index, "a selection by an index of hits:"),
+            (&by_index[..], "a selection by an index of hits:"),
             (from_sheet, "a selection from a sheet of hits:"),
             (&self.localisations, "a selected localisation"),
-            (&self.places, "an index whose last place has so many bytes more than two:"),
+            (&[two_bytes, three_bytes], "an index whose last place has so many bytes more than two:"),
         ] {
             let all: Vec<u64> = (0..met.len() as u64).collect();
             missing.extend(seldom(met, &all, least, name));
+        }
+        for (met, name) in [(past, "a sum past 32 bits"), (four_bytes, "a last place of four bytes")] {
+            missing.extend(seldom(&[met], &[0], LEAST_OF_LARGE, name));
+        }
+        for (kind, met) in BLOCK_KINDS.into_iter().zip(&self.last_counts) {
+            let first = u64::from(kind == BlockKind::Old);
+            let counts: Vec<u64> = (first..=full(kind) as u64).collect();
+            missing.extend(seldom(met, &counts, least, &format!("an index, {kind:?}, whose last block has entries:")));
         }
         missing
     }
@@ -419,12 +440,25 @@ pub fn due() -> Vec<Reason> {
     due.extend(reasons(Way::Mean, &OF_MEANINGS));
     due.extend(reasons(Way::There, &OF_TEXTS));
     due.extend(reasons(Way::Back, &OF_TEXTS));
-    due.extend(reasons(Way::Index, &OF_INDEXES));
+    due.extend(of_indexes());
     due.extend(reasons(Way::Hop, &OF_HOPS));
     due
 }
 
-use Fault::{Length, NoEntries, NotFull, Number, OverFull, Sum, Unused, Zeros};
+/// What is refused of blocks: in a file of each kind, and of a first one that
+/// tells none.
+fn of_indexes() -> Vec<Reason> {
+    let reason = |kind, stands, fault| Reason { way: Way::Index, number: BAD_BLOCK, at: Block(kind, stands, fault), year: 0 };
+    let mut due: Vec<Reason> = OF_NO_KIND.into_iter().map(|(stands, fault)| reason(None, stands, fault)).collect();
+    for kind in BLOCK_KINDS {
+        for (stands, faults) in OF_BLOCKS {
+            due.extend(faults.iter().map(|&fault| reason(Some(kind), stands, fault)));
+        }
+    }
+    due
+}
+
+use Fault::{Ending, Length, NoEntries, NotFull, Number, OtherKind, OverFull, Sum, Unused};
 use Stands::{Alone, First, Inner, Last};
 use Where::{
     After, Asked, Block, FirstCharacter, Head, Header, InnerCharacter, Item, LastCharacter, Lent, MetricEnd, Row, Semantics,
@@ -506,27 +540,17 @@ const OF_MEANINGS: [Stated; 3] =
 const OF_TEXTS: [Stated; 3] =
     [(NO_CHARACTER, 0, &[FirstCharacter, InnerCharacter, LastCharacter]), (ROOM, 0, &[Asked]), (ASK, 0, &[Asked])];
 
-/// What is refused of a code index. A piece is the last, and what is not the
-/// last has no unused entry.
-#[rustfmt::skip]
-const OF_INDEXES: [Stated; 4] = [
-    (BAD_BLOCK, 0, &[
-        Block(Alone, Length), Block(Alone, Number), Block(Alone, NoEntries), Block(Alone, OverFull), Block(Alone, Unused),
-        Block(Alone, Zeros), Block(Alone, Sum),
-    ]),
-    (BAD_BLOCK, 0, &[
-        Block(First, Number), Block(First, NoEntries), Block(First, NotFull), Block(First, OverFull), Block(First, Zeros),
-        Block(First, Sum),
-    ]),
-    (BAD_BLOCK, 0, &[
-        Block(Inner, Number), Block(Inner, NoEntries), Block(Inner, NotFull), Block(Inner, OverFull), Block(Inner, Zeros),
-        Block(Inner, Sum),
-    ]),
-    (BAD_BLOCK, 0, &[
-        Block(Last, Length), Block(Last, Number), Block(Last, NoEntries), Block(Last, OverFull), Block(Last, Unused),
-        Block(Last, Zeros), Block(Last, Sum),
-    ]),
+/// What is refused of a block in a file of a kind. A piece is the last, and what
+/// is not the last has no unused entry.
+const OF_BLOCKS: [(Stands, &[Fault]); 4] = [
+    (Alone, &[Number, NoEntries, OverFull, Unused, Sum]),
+    (First, &[Number, NoEntries, NotFull, OverFull, Sum]),
+    (Inner, &[Number, NoEntries, NotFull, OverFull, Ending, OtherKind, Sum]),
+    (Last, &[Length, Number, NoEntries, OverFull, Unused, Ending, OtherKind, Sum]),
 ];
+
+/// What is refused of a first block that does not tell the kind of the file.
+const OF_NO_KIND: [(Stands, Fault); 3] = [(Alone, Length), (Alone, Ending), (First, Ending)];
 
 /// What is refused of a sheet that is hopped over.
 const OF_HOPS: [Stated; 4] = [

@@ -9,6 +9,7 @@ use native.Mathlib.Omega.{arith}
 use Rattle.index.specs.Hopped.{entryOf, hopped, placeAfter}
 use Rattle.layout.specs.Answers.Calls.{reading}
 use Rattle.layout.specs.Bytes.{All, Bytes, flat, numberIn}
+use Rattle.layout.specs.Fields.Block
 use Rattle.layout.specs.Fields.Header as Field
 use Rattle.layout.specs.Index.Blocks.{begun}
 use Rattle.layout.specs.Index.Selecting.{entriesOf}
@@ -19,10 +20,11 @@ use Rattle.layout.specs.Reading.Sheets.{start}
 use Rattle.layout.specs.Shared.Reference.{localisation}
 use Rattle.layout.specs.Sheet.{Record, Sheet}
 use Rattle.layout.specs.Walk.{given, upTo}
+use Rattle.layout.specs.declared.BlockKind.the-variants.{New}
 use Rattle.layout.specs.declared.Entry.{Entry}
 use Rattle.layout.specs.declared.Sizes.{Sizes}
 use Rattle.laws.proofs.Encoding.Lengths.{length-record}
-use Rattle.laws.proofs.Index.Sheets.{sheet-entries, entries-of-length}
+use Rattle.laws.proofs.Index.Sheets.{new-reaches, sheet-entries, entries-of-length}
 use Rattle.laws.proofs.Reading.Records.{header-in}
 use Rattle.reading.proofs.Laws.Hop.{hops-of, sheet-holds}
 use Rattle.reading.proofs.Laws.Seen.{Seen}
@@ -107,7 +109,7 @@ pub record Read (y : ℕ) (s : List ℕ) (count : ℕ) : Type 0 where
   pub sheet : Sheet
   pub is : reading y s ≡ given sheet
   pub hops : Hops count start s
-  pub few : begun 63 count ≤ 65536
+  pub few : begun (Block.full New) count ≤ 65536
   pub entries : hopped count start s ≡ entriesOf start (sheet .records)
 
 pub read : (y : ℕ) (s : List ℕ) (z : Sizes) → Bytes s → Seen y s z → Read y s (z .records)
@@ -120,6 +122,6 @@ read y s z bs g =
       sheet = g .sheet;
       is = g .is;
       hops = hops-of (length l) start l s (holds .fine) (holds .is) (omega arith);
-      few = omega (arith, entries-of-length start l, sheet-entries y s (g .sheet) bs (g .is) .blocks);
+      few = rw (← (entries-of-length start l)) (sheet-entries New y s (g .sheet) bs (new-reaches y s (g .sheet) bs (g .is)) (g .is) .blocks);
       entries = hopped-is start l s (holds .fine) (holds .is);
     })

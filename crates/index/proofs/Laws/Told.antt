@@ -15,9 +15,10 @@ use Rattle.layout.specs.Answers.Calls.{andThen, inRoom, roomed, lent}
 use Rattle.layout.specs.Answers.Enums.{refusal, indexSizes, indexedOf, writtenOf}
 use Rattle.layout.specs.Answers.Lent.{theGiven}
 use Rattle.layout.specs.Bytes.{Bytes}
-use Rattle.layout.specs.Index.Reading.{entriesIn}
+use Rattle.layout.specs.Index.Reading.{fileKind, entriesIn}
 use Rattle.layout.specs.Refusals.{ROOM}
 use Rattle.layout.specs.Walk.{Answer, given, refused}
+use Rattle.layout.specs.declared.BlockKind.{BlockKind}
 use Rattle.layout.specs.declared.Entry.{Entry}
 use Rattle.layout.specs.declared.IndexSizes.{IndexSizes}
 use Rattle.layout.specs.declared.Indexed.the-variants as Index
@@ -56,25 +57,27 @@ module _ {A : Type 0} (w : Answer A) (f : A → List ℕ) (old : List ℕ) where
   told-given a e l i r out t = rw (e, i) t
 
 -- what the check's answer says of an index
-by-accepted : (w : Answer (List Entry)) (z : IndexSizes) → Index.Accepted z ≡ indexedOf w → (es : List Entry) × (w ≡ given es) × (length es ≡ z .entries)
+by-accepted : (kind : BlockKind) (w : Answer (List Entry)) (z : IndexSizes) → Index.Accepted z ≡ indexedOf kind w
+    → (es : List Entry) × (w ≡ given es) × (length es ≡ z .entries)
 unfolding indexedOf
-by-accepted (given es) z e = let is : indexSizes es ≡ z = cc in (es, refl, ap (λ (v : IndexSizes). v .entries) is)
-by-accepted (refused n p y) z e = absurd (let q : _≡_ {A = ℕ} 0 1 = cc in omega arith)
+by-accepted kind (given es) z e = let is : indexSizes kind es ≡ z = cc in (es, refl, ap (λ (v : IndexSizes). v .entries) is)
+by-accepted kind (refused n p y) z e = absurd (let q : _≡_ {A = ℕ} 0 1 = cc in omega arith)
 
-pub by-refusal : (w : Answer (List Entry)) (q : Refusal) → Index.Refused q ≡ indexedOf w → w ≡ refused (q .number) (q .place) (q .year)
+pub by-refusal : (kind : BlockKind) (w : Answer (List Entry)) (q : Refusal) → Index.Refused q ≡ indexedOf kind w → w ≡ refused (q .number) (q .place) (q .year)
 unfolding indexedOf
-by-refusal (given es) q e = absurd (let z : _≡_ {A = ℕ} 0 1 = cc in omega arith)
-by-refusal (refused n p y) q e = cc
+by-refusal kind (given es) q e = absurd (let z : _≡_ {A = ℕ} 0 1 = cc in omega arith)
+by-refusal kind (refused n p y) q e = cc
 
 -- what the check's `Accepted` says of an index
-pub record Checked (xs : List ℕ) (count : ℕ) : Type 0 where
+pub record Checked (xs : List ℕ) (kind : BlockKind) (count : ℕ) : Type 0 where
   pub entries : List Entry
   pub is : entriesIn xs ≡ given entries
-  pub placed : entries ≡ entriesAt xs 0 count
-  pub holds : Holds count xs
+  pub placed : entries ≡ entriesAt kind xs 0 count
+  pub holds : Holds kind count xs
 
-pub checked : (xs : List ℕ) → Bytes xs → (r : Indexed) → r ≡ indexedOf (entriesIn xs) → (z : IndexSizes) → r ≡ Index.Accepted z → Checked xs (z .entries)
-checked xs bs r e z a =
-    let (es, is, long) = by-accepted (entriesIn xs) z (sym a ∙ e) in
+pub checked : (xs : List ℕ) → Bytes xs → (r : Indexed) → r ≡ indexedOf (fileKind xs) (entriesIn xs) → (z : IndexSizes) → r ≡ Index.Accepted z
+    → (kind : BlockKind) → kind ≡ fileKind xs → Checked xs kind (z .entries)
+checked xs bs r e z a kind is-kind =
+    let (es, is, long) = by-accepted (fileKind xs) (entriesIn xs) z (sym a ∙ e) in
     let (placed, holds) = index-placed xs bs es is in
-    rw (← long) (record { entries = es; is = is; placed = placed; holds = holds })
+    rw (is-kind, ← long) (record { entries = es; is = is; placed = placed; holds = holds })

@@ -13,6 +13,7 @@ use Rattle.layout.specs.Shared.Texts.{isClean}
 use Rattle.layout.specs.Sheet.{Record, Head, Tails, Sheet, Table}
 use Rattle.layout.specs.Walk.{Answer, given, refused}
 use Rattle.layout.specs.Writing.Tables.{flatten}
+use Rattle.layout.specs.declared.BlockKind.{BlockKind}
 use Rattle.layout.specs.declared.Checked.{Checked}
 use Rattle.layout.specs.declared.Checked.the-variants as Check
 use Rattle.layout.specs.declared.Corners.{Corners}
@@ -102,12 +103,12 @@ writtenOf (given s) = Write.Length (length s)
 writtenOf (refused number place year) = Write.Refused (refusal number place year)
 
 -- the entries of an index, and the blocks in which they stand
-abbrev pub indexSizes : List Entry → IndexSizes
-indexSizes es = record { entries = length es; blocks = begun Block.full (length es) }
+abbrev pub indexSizes : BlockKind → List Entry → IndexSizes
+indexSizes kind es = record { entries = length es; blocks = begun (Block.full kind) (length es) }
 
-unfoldable pub indexedOf : Answer (List Entry) → Indexed
-indexedOf (given es) = Index.Accepted (indexSizes es)
-indexedOf (refused number place year) = Index.Refused (refusal number place year)
+unfoldable pub indexedOf : BlockKind → Answer (List Entry) → Indexed
+indexedOf kind (given es) = Index.Accepted (indexSizes kind es)
+indexedOf kind (refused number place year) = Index.Refused (refusal number place year)
 
 unfoldable pub hoppedOf : Answer Hop → Hopped
 hoppedOf (given h) = Hops.Hop h

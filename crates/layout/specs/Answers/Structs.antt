@@ -57,9 +57,10 @@ use Rattle.layout.specs.declared.structs.SxfChecked.{SxfChecked}
 use Rattle.layout.specs.declared.structs.SxfWritten.{SxfWritten}
 
 -- The version of the calls for C, `SXF_VERSION` of include/sxf.h. It is raised where a program has to be changed or built again: 2, since a
--- row has nine numbers and a record its mark (02, request 2); 3, since a head has four flags (02, request 6).
+-- row has nine numbers and a record its mark (02, request 2); 3, since a head has four flags (02, request 6); 4, since a sheet and its index may need
+-- more room than an older header says (02, request 7).
 abbrev pub version : ℕ
-version = 3
+version = 4
 
 unfoldable pub checkedRow : Checked → SxfChecked
 checkedRow (Check.Accepted z) =

@@ -14,6 +14,8 @@ use Rattle.layout.specs.Reading.Sheets.{start}
 use Rattle.layout.specs.Shared.Reference.{localisation}
 use Rattle.layout.specs.Sheet.{Record}
 use Rattle.layout.specs.Walk.{Answer, given}
+use Rattle.layout.specs.declared.BlockKind.{BlockKind}
+use Rattle.layout.specs.declared.BlockKind.the-variants.{New}
 use Rattle.layout.specs.declared.Entry.{Entry}
 
 -- the entries of records of which the first starts at a place: "Entries follow record order"
@@ -22,9 +24,13 @@ entriesOf place [] = []
 entriesOf place (r ∷ rs) =
     record { code = r .code; place = place; localisation = localisation (r .reference) } ∷ entriesOf (place + length (encodeRecord r)) rs
 
--- the index that is built: "the sheet's own" refusals come first
-unfoldable pub indexOf : ℕ → List ℕ → Answer (List ℕ)
-indexOf year s = andThen (reading year s) (λ t. given (encodeIndex (entriesOf start (t .records))))
+-- the index of a sheet in blocks of a kind: "the sheet's own" refusals come first
+unfoldable pub indexBy : BlockKind → ℕ → List ℕ → Answer (List ℕ)
+indexBy kind year s = andThen (reading year s) (λ t. given (encodeIndex kind (entriesOf start (t .records))))
+
+-- the index that is built: "new ones are always written in the new kind" (02, request 7)
+abbrev pub indexOf : ℕ → List ℕ → Answer (List ℕ)
+indexOf year s = indexBy New year s
 
 -- A selection has three numbers for each record of the code, in record order: the record's number, its place, its localisation.
 abbrev pub pick : Bool → ℕ → ℕ → ℕ → List ℕ

@@ -3,7 +3,7 @@ use Prim.Native.Nat.{ℕ, _+_}
 use mathlib.Core.Bool.{Bool, true, false}
 use mathlib.Core.List.{List, [], _∷_, _++_}
 use lib.ListN.{length, replicate}
-use Rattle.layout.specs.Bytes.{bytes, stored, storedAll, repeat, flat, total}
+use Rattle.layout.specs.Bytes.{bytes, stored, storedAll, repeat, flat, total, low32}
 use Rattle.layout.specs.Fields.Descriptor
 use Rattle.layout.specs.Fields.Header
 use Rattle.layout.specs.Fields.Item as ItemField
@@ -87,9 +87,9 @@ encodeHead h tails sum count =
 unfoldable pub encodeWith : Sheet → ℕ → List ℕ
 encodeWith t sum = encodeHead (t .head) (t .tails) sum (length (t .records)) ++ flat encodeRecord (t .records)
 
--- "all bytes of the sheet as numbers 0 to 255, with the four bytes at 12 counted as zero"
+-- "all bytes of the sheet as numbers 0 to 255, with the four bytes at 12 counted as zero"; "only its low 32 are kept" (02, request 7)
 unfoldable pub sheetSum : Sheet → ℕ
-sheetSum t = total (encodeWith t 0)
+sheetSum t = low32 (total (encodeWith t 0))
 
 unfoldable pub encode : Sheet → List ℕ
 encode t = encodeWith t (sheetSum t)

@@ -4,7 +4,7 @@ use Prim.Native.Nat.{ℕ, _+_}
 use mathlib.Core.List.{List, [], _∷_}
 use lib.Dec.{eqb, leb}
 use lib.ListN.{length, take, drop}
-use Rattle.layout.specs.Bytes.{Field, after, numberIn, bytesIn, total, zeros}
+use Rattle.layout.specs.Bytes.{Field, after, numberIn, bytesIn, total, low32, zeros}
 use Rattle.layout.specs.Fields.{limit}
 use Rattle.layout.specs.Fields.Descriptor
 use Rattle.layout.specs.Fields.Passport
@@ -20,8 +20,12 @@ abbrev pub start : ℕ
 start = after Descriptor.reserved
 
 -- "Sum (000, appendix 2): all bytes of the sheet as numbers 0 to 255, with the four bytes at 12 counted as zero." (01, Passport)
+abbrev pub wholeSum : List ℕ → ℕ
+wholeSum s = total (take (Passport.sum .place) s) + total (drop (after Passport.sum) s)
+
+-- "The sum may now pass 32 bits, and only its low 32 are kept." (02, request 7)
 abbrev pub sumOf : List ℕ → ℕ
-sumOf s = total (take (Passport.sum .place) s) + total (drop (after Passport.sum) s)
+sumOf s = low32 (wholeSum s)
 
 -- "TOO LONG: sheet over the limit; place 0"; "SHORT: under 452 bytes (place 0)"
 unfoldable pub sizeChecks : List ℕ → List Check

@@ -55,7 +55,7 @@ sum-is : (y : ℕ) (s : List ℕ) → Bytes s → (t : Sheet) → answer (upTo y
 unfolding encode encodeWith encodeHead
 sum-is y s b t e =
     let g = sheet-sound (upTo y) s b t e in
-    let f : sheetSum t < 256 ^ 4 = sum-fits t (g .0) in
+    let f : sheetSum t < 256 ^ 4 = sum-fits t in
     ap (λ l. number 4 (drop 12 l)) (sym (g .2)) ∙ number-bytes 4 (sheetSum t) [] f
 
 accepted : (t : Sheet) (size : ℕ) (z : Tally) → tallyOf size (joined flattenRecord (t .records)) ≡ z → (n : ℕ) → length (t .records) ≡ n

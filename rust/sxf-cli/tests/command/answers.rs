@@ -74,7 +74,7 @@ fn usage_and_unreadable_files_are_status_2() {
 fn a_file_over_the_limit_is_refused() {
     let folder = Folder::new("over");
     let file = folder.file("long.sxf");
-    // No byte of it is on the disk, and all but the first 16,777,217 are not read.
+    // No byte of it is on the disk, and all but the first 67,108,865 are not read.
     fs::File::create(&file).and_then(|f| f.set_len(1 << 40)).expect("a file with a hole");
     let output = on("check", &file, &[]);
     assert_eq!(status(&output), 1);

@@ -8,13 +8,20 @@ use std::os::unix::fs::symlink;
 use std::path::{Path, PathBuf};
 use std::process::Output;
 use sxf::index::{BLOCK_FULL, BLOCK_SIZE, LONGEST};
-use sxf::{Head, Index, NewPart, NewRecord, Reference, Setting, Writer};
+use sxf::{Entry, Head, Index, NewPart, NewRecord, Reference, Setting, Writer};
 
 /// Where the first entry of a block has its code, its place and its localisation, and after how many bytes the second has them.
 const CODE: usize = 4;
 const PLACE: usize = 8;
-const LOCALISATION: usize = 11;
-const ENTRY_SIZE: usize = 8;
+const LOCALISATION: usize = 12;
+const ENTRY_SIZE: usize = 9;
+
+/// How many entries a full block of the old kind has.
+const OLD_FULL: usize = 63;
+
+/// Where the two bytes of a block stand that say its kind, and those that have its sum.
+const KIND: usize = 508;
+const SUM: usize = 510;
 
 /// Writes the index of a sheet.
 fn indexed(sheet: &Path, index: &Path, more: &[&str]) -> Output {
@@ -30,6 +37,30 @@ fn built(sheet: &Path) -> Vec<u8> {
     Index::build(&fs::read(sheet).expect("a sheet"), Setting::Y2017).expect("an accepted sheet").into_bytes()
 }
 
+/// The index of a sheet in the old kind, by the document's words: "block number from 0 (2 bytes), entry count (2), 63 entries of 8 bytes (class code
+/// 4, record place 3, localisation 1), two zero bytes, and the sum of the first 510 bytes modulo 65536" (02, request 3).
+fn old_index(sheet: &Path) -> Vec<u8> {
+    let entries: Vec<Entry> = Index::read(built(sheet)).expect("an index").entries().collect();
+    let block = |(number, entries): (u16, &[Entry])| {
+        let mut block = [number.to_le_bytes(), (entries.len() as u16).to_le_bytes()].concat();
+        for entry in entries {
+            block.extend(entry.code.to_le_bytes());
+            block.extend(&entry.place.to_le_bytes()[..3]);
+            block.push(entry.localisation_number as u8);
+        }
+        block.resize(BLOCK_SIZE, 0);
+        put_sum_right(&mut block);
+        block
+    };
+    (0..).zip(entries.chunks(OLD_FULL)).flat_map(block).collect()
+}
+
+/// Puts the sum of a block right.
+fn put_sum_right(block: &mut [u8]) {
+    let sum = block[..SUM].iter().fold(0u16, |sum, &byte| sum.wrapping_add(byte.into()));
+    block[SUM..].copy_from_slice(&sum.to_le_bytes());
+}
+
 /// A sheet of so many records whose codes are 0, 1 and 2 in turn.
 fn sheet_of(records: u32) -> Vec<u8> {
     let mut writer = Writer::new(Head::PLAIN).expect("a plain head");
@@ -39,10 +70,10 @@ fn sheet_of(records: u32) -> Vec<u8> {
     writer.write(Setting::Y2017).expect("a sheet")
 }
 
-/// The samples, drawn sheets, and sheets around the end of a block.
+/// The samples, drawn sheets, and sheets around the end of a block, of the new kind and of the old.
 fn sheets(folder: &Folder) -> Vec<PathBuf> {
     let drawn = (0..20).map(|number| (format!("drawn-{number}"), drawn::sheet(number)));
-    let counted = [63, 64, 127].map(|records| (format!("records-{records}"), sheet_of(records)));
+    let counted = [56, 57, 63, 64, 127].map(|records| (format!("records-{records}"), sheet_of(records)));
     let made = drawn.chain(counted).map(|(name, sheet)| {
         let file = folder.file(&name);
         fs::write(&file, sheet).expect("a file");
@@ -174,6 +205,42 @@ fn what_is_selected_is_listed_by_sheet_and_by_index() {
     }
 }
 
+/// An old index lists the same, and "new ones are always written in the new kind" (02, request 7).
+#[test]
+fn an_old_index_is_read_and_never_written() {
+    let (folder, room) = (Folder::new("select-old"), Folder::new("select-old-sheets"));
+    let index = folder.file("old.idx");
+    for sheet in sheets(&room) {
+        fs::write(&index, old_index(&sheet)).expect("a file");
+        for code in ["0", "1", "31120000"] {
+            let (by_sheet, by_index) = (on("select", &sheet, &["--code", code]), selected(&sheet, code, &index));
+            assert_eq!((status(&by_index), out(&by_index)), (0, out(&by_sheet)), "{}: {code}", sheet.display());
+        }
+        assert_eq!(status(&indexed(&sheet, &index, &["--force"])), 0);
+        let written = fs::read(&index).expect("an index");
+        assert!(written == built(&sheet), "{}", sheet.display());
+        assert!(written.chunks(BLOCK_SIZE).all(|block| block[KIND..SUM] == [1, 0]), "{}", sheet.display());
+    }
+}
+
+/// "A file holds one kind only" (02, request 7).
+#[test]
+fn an_index_of_two_kinds_is_refused_by_the_first_block_of_the_other() {
+    let folder = Folder::new("select-kinds");
+    let (sheet, index) = (folder.file("sheet.sxf"), folder.file("sheet.idx"));
+    fs::write(&sheet, sheet_of(64)).expect("a file");
+    let (old, new) = (old_index(&sheet), built(&sheet));
+    for (first, second) in [(&old, &new), (&new, &old)] {
+        fs::write(&index, [&first[..BLOCK_SIZE], &second[BLOCK_SIZE..]].concat()).expect("a file");
+        is_told(&sheet, "0", &index, 1, "sheet.idx: refusal 18 BAD BLOCK at 512 (0x200): ");
+    }
+    let mut none = new;
+    none[KIND] = 2;
+    put_sum_right(&mut none[..BLOCK_SIZE]);
+    fs::write(&index, none).expect("a file");
+    is_told(&sheet, "0", &index, 1, "sheet.idx: refusal 18 BAD BLOCK at 0 (0x0): ");
+}
+
 /// Without a hit the sheet's own line is all that is printed.
 #[test]
 fn q_has_one_record_of_code_0() {
@@ -234,8 +301,7 @@ fn changed(name: &str, places: &[usize]) -> Vec<u8> {
     for &place in places {
         index[place] += 1;
     }
-    let sum: u16 = index[..BLOCK_SIZE - 2].iter().map(|&byte| u16::from(byte)).sum();
-    index[BLOCK_SIZE - 2..].copy_from_slice(&sum.to_le_bytes());
+    put_sum_right(&mut index);
     index
 }
 
@@ -299,11 +365,11 @@ fn an_index_is_read_to_its_longest() {
     for (number, block) in (0..=u16::MAX).zip(blocks.chunks_mut(BLOCK_SIZE)) {
         block[..2].copy_from_slice(&number.to_le_bytes());
         block[2] = BLOCK_FULL as u8;
-        let sum: u16 = block[..3].iter().map(|&byte| u16::from(byte)).sum();
-        block[BLOCK_SIZE - 2..].copy_from_slice(&sum.to_le_bytes());
+        block[KIND] = 1;
+        put_sum_right(block);
     }
     fs::write(&index, &blocks).expect("a file");
-    is_told(&sample("Q"), "0", &index, 2, "its entries are 4128768, where the sheet's records are 1");
+    is_told(&sample("Q"), "0", &index, 2, "its entries are 3670016, where the sheet's records are 1");
     // No byte after the longest is on the disk, and all but the first of them are not read.
     fs::File::options().write(true).open(&index).and_then(|file| file.set_len(1 << 40)).expect("a file with a hole");
     is_told(&sample("Q"), "0", &index, 1, "long.idx: refusal 18 BAD BLOCK at 33554432 (0x2000000): ");

@@ -7,6 +7,7 @@ mod hop;
 mod index;
 mod lines;
 mod mark;
+mod memory;
 mod pages;
 mod run;
 mod tails;

@@ -6,7 +6,7 @@ use std::path::PathBuf;
 use sxf::fields::{descriptor, passport, Field};
 use sxf::{Head, Localisation, NewPart, NewRecord, Number, Point, Reference, Setting, Sheet, Writer};
 
-/// How many codes the records of a sheet have in turn. A block of an index has 63 entries, so blocks begin with different codes.
+/// How many codes the records of a sheet have in turn. A block of an index has 56 entries, or 63 in an old file, so blocks begin with different codes.
 pub const CODES: usize = 5;
 
 /// A code that needs all four bytes.
@@ -70,8 +70,13 @@ pub const TEXT_FIELDS: [(&str, Field); 4] = [
 
 pub fn put_sum_right(sheet: &mut [u8]) {
     sheet[passport::SUM.range()].fill(0);
-    let sum: u32 = sheet.iter().map(|&b| u32::from(b)).sum();
+    let sum = whole_sum(sheet) as u32;
     sheet[passport::SUM.range()].copy_from_slice(&sum.to_le_bytes());
+}
+
+/// The sum of all bytes, of which a sheet keeps the low 32 bits.
+pub fn whole_sum(bytes: &[u8]) -> u64 {
+    bytes.iter().map(|&byte| u64::from(byte)).sum()
 }
 
 /// A sheet's bytes "with those tails cleared and the sum to match" (02, request 6), worked out here.

@@ -2,13 +2,13 @@
 
 use super::{hex, rooms, written, Care, Judge, TOLD};
 use crate::archive;
-use crate::blocks::{faults, number_at, stands, used, COUNT, ENTRY_SIZE, PLACE};
+use crate::blocks::{faults, kind_of, last_place, number_at, stands, COUNT};
 use crate::numbers::Numbers;
 use crate::tables::rows;
 use crate::tally::{Call, Reason, Way, Where, BY_INDEX, FROM_SHEET};
-use second::{Reading, Refusal};
+use second::{BlockKind, Reading, Refusal};
 use std::mem::take;
-use sxf_sys::index::{index_length, BLOCK_SIZE, PICK_LOCALISATION, PICK_PLACE, PICK_RECORD, PICK_WIDTH};
+use sxf_sys::index::{index_length, BLOCK_SIZE, ENTRY_WIDTH, PICK_LOCALISATION, PICK_PLACE, PICK_RECORD, PICK_WIDTH};
 use sxf_sys::reference::LOCALISATION;
 use sxf_sys::refusals::{BAD_BLOCK, OK};
 
@@ -16,9 +16,10 @@ use sxf_sys::refusals::{BAD_BLOCK, OK};
 const RECORDS_ASKED: usize = 40;
 
 impl Judge {
-    /// Builds the index of a sheet with all rooms; asks of what is built all
-    /// that an index can be asked; and selects each of these codes by the index
-    /// and from the sheet. Tells whether it is built.
+    /// Builds the index of a sheet with all rooms; asks of what is built all that
+    /// an index can be asked, and of the same in old blocks everything once; and
+    /// selects each of these codes by both and from the sheet. Tells whether it is
+    /// built.
     pub fn indexed(&mut self, sheet: &[u8], year: u32, codes: &[u32], numbers: &mut Numbers) -> bool {
         let length = match second::index_build(sheet, year, usize::MAX) {
             Ok(index) => index.len(),
@@ -29,19 +30,65 @@ impl Judge {
             built = self.index_build(sheet, year, room);
         }
         let index = take(&mut self.out);
-        if built {
-            self.index(index.slice(), codes, numbers);
+        let both = if built { both_kinds(sheet, year, index.slice()) } else { Vec::new() };
+        if let [new, old @ ..] = &both[..] {
+            self.index(new, codes, numbers);
+            old.iter().for_each(|old| self.index_once(old, codes[0], numbers));
         }
+        self.same_entries(&both);
         for &code in codes {
             let from_sheet = self.selects(sheet, year, code, numbers);
-            let length = from_sheet.as_ref().map_or(0, Vec::len);
-            let by_index = if built { self.index_select(index.slice(), code, length) } else { None };
-            let asked = || format!("code {code:#x} at {year}, by the index and from the sheet");
-            self.same(asked, by_index == from_sheet, true);
+            self.same_picks(&both, code, &from_sheet);
             self.picks_are_records(sheet, year, code, &from_sheet.unwrap_or_default());
         }
         self.out = index;
         built
+    }
+
+    /// Builds the index of an accepted sheet of so many records, and asks of it,
+    /// and of the same in old blocks, everything once; and selects a code by both
+    /// and from the sheet. For sheets that are too large for all rooms.
+    pub fn indexed_once(&mut self, sheet: &[u8], year: u32, records: usize, code: u32) {
+        let built = self.index_build(sheet, year, index_length(records));
+        self.same(|| format!("whether the index of {records} records is built"), built, true);
+        if !built {
+            return;
+        }
+        let index = take(&mut self.out);
+        let both = both_kinds(sheet, year, index.slice());
+        for index in &both {
+            self.index_check(index);
+        }
+        self.same_entries(&both);
+        let from_sheet = self.select(sheet, year, code, PICK_WIDTH * records);
+        self.same_picks(&both, code, &from_sheet);
+        self.picks_are_records(sheet, year, code, &from_sheet.unwrap_or_default());
+        self.out = index;
+    }
+
+    /// Indexes of one sheet have the same entries, whichever kind they are of.
+    fn same_entries(&mut self, indexes: &[Vec<u8>]) {
+        let mut first = None;
+        for index in indexes {
+            let count = archive::index_check(index).entries as usize;
+            let entries = self.index_read(index, ENTRY_WIDTH * count);
+            match &first {
+                None => first = Some(entries),
+                Some(first) => self.same(|| "entries of new blocks and of old ones".into(), *first == entries, true),
+            }
+        }
+    }
+
+    /// A code is selected by indexes of a sheet, whichever kind they are of, as it
+    /// is from the sheet; where they are not built, the sheet is refused as well.
+    fn same_picks(&mut self, indexes: &[Vec<u8>], code: u32, from_sheet: &Option<Vec<u64>>) {
+        let asked = |kind| format!("code {code:#x} by an index, {kind:?}, and from the sheet");
+        let length = from_sheet.as_ref().map_or(0, Vec::len);
+        for index in indexes {
+            let by_index = self.index_select(index, code, length);
+            self.same(|| asked(kind_of(index)), by_index == *from_sheet, true);
+        }
+        self.same(|| asked(None), indexes.is_empty(), from_sheet.is_none());
     }
 
     /// Asks of an index everything, with all rooms, and tells whether it is
@@ -94,6 +141,9 @@ impl Judge {
             self.indexed(sheet, year, &[code], numbers);
             return;
         }
+        if care == Care::Large && due.is_ok() {
+            return self.indexed_once(sheet, year, records, code);
+        }
         let room = a_room(index_length(records), numbers);
         self.index_build(sheet, year, room);
         let room = a_room(PICK_WIDTH * records, numbers);
@@ -122,7 +172,8 @@ impl Judge {
         let none = archive::Index::default();
         let expected = match second::index_check(index) {
             Ok(second::Index { entries, blocks }) => {
-                self.met.last_counts[last_count(index)] = 1;
+                let (kind, count) = last_count(index);
+                self.met.last_counts[kind as usize][count] = 1;
                 archive::Index { entries, blocks, ..none }
             }
             Err(refusal) => {
@@ -134,15 +185,18 @@ impl Judge {
         answer.number == OK
     }
 
-    /// Reads the entries of an index into a slice of this length.
-    pub fn index_read(&mut self, index: &[u8], room: usize) {
+    /// Reads the entries of an index into a slice of this length, and gives what
+    /// was written.
+    pub fn index_read(&mut self, index: &[u8], room: usize) -> Option<Vec<u64>> {
         let answer = archive::index_read(index, self.entries.lend(room));
         self.meet(Call::IndexRead, answer.number);
         let due = second::index_read(index, room);
         let asked = || format!("entries of an index of {} bytes into {room} numbers", index.len());
         self.same(asked, answer, written(&due));
-        let found = self.entries.holds(&due.unwrap_or_default());
+        let found = self.entries.holds(due.as_deref().unwrap_or_default());
         self.whole(asked, "numbers", found);
+        let written = self.entries.slice().get(..answer.length as usize).filter(|_| answer.number == OK);
+        written.map(<[u64]>::to_vec)
     }
 
     /// Selects a code by an index into a slice of this length, and gives what
@@ -208,12 +262,15 @@ impl Judge {
         }
     }
 
-    /// Whether the last place of an index that is built takes three bytes.
+    /// How many bytes the last place of an index that is built takes.
     fn meet_places(&mut self, index: &[u8]) {
-        if let Some(block) = index.chunks(BLOCK_SIZE).last() {
-            let last_entry = used(block) - ENTRY_SIZE;
-            let [.., high] = block[PLACE.at(last_entry).range()] else { return };
-            self.met.places[usize::from(high != 0)] = 1;
+        if let Some(place) = last_place(BlockKind::New, index) {
+            let bytes = match place {
+                ..0x1_0000 => 2,
+                0x1_0000..PAST_OLD_BLOCKS => 3,
+                PAST_OLD_BLOCKS.. => 4,
+            };
+            self.met.places[bytes - 2] = 1;
         }
     }
 
@@ -223,7 +280,7 @@ impl Judge {
         let faults = faults(index, block);
         self.same(|| format!("faults of block {block}"), (number, faults.is_empty()), (BAD_BLOCK, false));
         if let [fault] = faults[..] {
-            let at = Where::Block(stands(index, block), fault);
+            let at = Where::Block(kind_of(index), stands(index, block), fault);
             self.meet_reason(Reason { way: Way::Index, number, at, year });
         }
     }
@@ -246,8 +303,22 @@ fn length_due(due: Result<Vec<u64>, Refusal>, numbers: &mut Numbers) -> usize {
     due.map_or_else(|_| numbers.index(40), |written| written.len())
 }
 
-/// The entries of the last block of an index that is accepted, or 0 where there
-/// is none.
-fn last_count(index: &[u8]) -> usize {
-    index.chunks(BLOCK_SIZE).last().map_or(0, |block| number_at(block, COUNT))
+/// The first place that three bytes do not hold.
+const PAST_OLD_BLOCKS: usize = 1 << 24;
+
+/// The index of a sheet that is built in new blocks, and, where these can hold
+/// all places, the same in old ones.
+fn both_kinds(sheet: &[u8], year: u32, built: &[u8]) -> Vec<Vec<u8>> {
+    let mut both = vec![built.to_vec()];
+    if last_place(BlockKind::New, built).is_none_or(|place| place < PAST_OLD_BLOCKS) {
+        both.extend(second::index_build_of_kind(BlockKind::Old, sheet, year, usize::MAX));
+    }
+    both
+}
+
+/// The kind of an index that is accepted, and the entries of its last block; no
+/// entries where there is none, and such an index counts as a new one.
+fn last_count(index: &[u8]) -> (BlockKind, usize) {
+    let count = index.chunks(BLOCK_SIZE).last().map_or(0, |block| number_at(block, COUNT));
+    (kind_of(index).unwrap_or(BlockKind::New), count)
 }

@@ -5,6 +5,7 @@ use super::{hex, refusal_of, table_sizes, Care, Judge, TOLD};
 use crate::archive;
 use crate::numbers::Numbers;
 use crate::reasons;
+use crate::sheets::{passes_32_bits, SUMS};
 use crate::tally::{Call, Reason, Way, Where};
 use second::{Reading, Refusal, Sizes, Table};
 use sxf_sys::fields::passport::CORNERS;
@@ -42,25 +43,36 @@ impl Judge {
             Ok(reading) => {
                 self.meet_features(&reading.head, &reading.table);
                 self.meet_tails(&reading.tails);
+                self.met.sums[usize::from(passes_32_bits(sheet))] = 1;
             }
             Err(refusal) => self.meet_reason(reasons::of_sheet(sheet, *refusal)),
         }
-        let answer = archive::check(sheet, year);
-        self.meet(Call::Check, answer.number);
-        self.same(|| format!("check at {year}"), answer, checked(second::check(sheet, year)));
+        let answer = self.check(sheet, year);
         self.same(|| format!("check at {year}, held against what is read"), answer, checked(sizes(&due)));
         if care != Care::Check {
             self.unfolds(sheet, year, &due, care, numbers);
-            self.records_at(sheet, year, &due, care, numbers);
-            self.head_of(sheet, year, &due);
             self.indexes(sheet, year, &due, care, numbers);
             self.hops_at(sheet, year, care, numbers);
             if let Ok(reading) = &due {
                 self.writes_back(sheet, year, reading);
+            }
+        }
+        if matches!(care, Care::Whole | Care::Once) {
+            self.records_at(sheet, year, &due, care, numbers);
+            self.head_of(sheet, year, &due);
+            if let Ok(reading) = &due {
                 self.meanings_of(reading);
             }
         }
         due.is_ok()
+    }
+
+    /// Checks a sheet, and gives the archive's answer.
+    pub fn check(&mut self, sheet: &[u8], year: u32) -> archive::Checked {
+        let answer = archive::check(sheet, year);
+        self.meet(Call::Check, answer.number);
+        self.same(|| format!("check at {year}"), answer, checked(second::check(sheet, year)));
+        answer
     }
 
     /// Unfolds into slices of several lengths.
@@ -71,7 +83,7 @@ impl Judge {
         };
         let more = sizes.map(|size| size + numbers.index(9));
         self.unfold(sheet, year, due, more);
-        if care == Care::Once {
+        if care != Care::Whole {
             return;
         }
         self.unfold(sheet, year, due, sizes);
@@ -128,7 +140,7 @@ impl Judge {
         let last = count.wrapping_sub(1);
         let any = numbers.below(count.max(1));
         let asked = [any, count, 0, last, 1 << 32, (1 << 32) + any, u64::MAX, numbers.any()];
-        let few = if care == Care::Once || due.is_err() { 2 } else { asked.len() };
+        let few = if care != Care::Whole || due.is_err() { 2 } else { asked.len() };
         for &number in &asked[..few] {
             self.record_at(sheet, year, number);
         }
@@ -231,11 +243,12 @@ impl Judge {
     }
 
     /// The cleared sheet is read as the sheet is, but that all its tails are
-    /// clean, and its sum is without them.
+    /// clean, and its sum is without them. With them it may have passed 32 bits.
     fn reads_cleared(&mut self, sheet: &[u8], cleared: &[u8], year: u32, reading: &Reading) {
         let asked = |what: &str| format!("{what} of the cleared sheet at {year}");
         let tails: u64 = reading.tails.by_place().concat().into_iter().map(u64::from).sum();
-        let due = archive::Checked { sum: reading.sum - tails, ..archive::check(sheet, year) };
+        let sum = reading.sum.wrapping_sub(tails) % SUMS;
+        let due = archive::Checked { sum, ..archive::check(sheet, year) };
         self.same(|| asked("check"), archive::check(cleared, year), due);
         let (answer, (numbers, elements, bytes)) = archive::unfold_new(cleared, year, table_sizes(&reading.table));
         self.same(|| asked("unfold"), answer, due);

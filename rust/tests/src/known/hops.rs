@@ -60,13 +60,17 @@ fn hit(record: u64, at: u64, total: u64, looked: u64) -> Hop {
 /// in its passport; it may be too short to have one.
 fn says(judge: &mut Judge, name: &str, sheet: &[u8], code: u32, due: Hop) {
     let mut framed = sheet.to_vec();
-    put_if_there(&mut framed, passport::FRAME, code);
-    let answers = (judge.first_with(sheet, code), judge.frame_of(&framed));
+    says_in_place(judge, name, &mut framed, code, due);
+    judge.hops(&framed, &[code], &mut Numbers::of_case(0, 0, 0));
+}
+
+/// The same of a sheet that gets the code in its passport where it is, since it is
+/// too large to be copied, and to have all else altered.
+fn says_in_place(judge: &mut Judge, name: &str, sheet: &mut [u8], code: u32, due: Hop) {
+    let with_code = judge.first_with(sheet, code);
+    put_if_there(sheet, passport::FRAME, code);
+    let answers = (with_code, judge.frame_of(sheet));
     judge.same(|| format!("{name}, code {code}, by the archive and by hand"), answers, (due, due));
-    // To alter all else of a longer one takes too much time.
-    if sheet.len() < LIMIT {
-        judge.hops(&framed, &[code], &mut Numbers::of_case(0, 0, 0));
-    }
 }
 
 /// The first record with a code, or none.
@@ -127,13 +131,14 @@ fn refusals_of_head(judge: &mut Judge) {
         }
     }
 
-    let mut long = three;
-    long.resize(LIMIT, 0);
-    says(judge, "zeros up to the limit", &long, 8, hit(1, 488, 36, 2));
-    says(judge, "zeros up to the limit", &long, 9, no_hit(3));
-    long.push(0);
-    says(judge, "zeros over the limit", &long, 8, refused(TOO_LONG, 0));
-    says(judge, "nothing but zeros over the limit", &vec![0; LIMIT + 1], 8, refused(TOO_LONG, 0));
+    // What is zero from the start takes no memory until it is looked at.
+    let mut long = vec![0; LIMIT + 1];
+    says_in_place(judge, "nothing but zeros over the limit", &mut long, 8, refused(TOO_LONG, 0));
+    long[..three.len()].copy_from_slice(&three);
+    says_in_place(judge, "zeros over the limit", &mut long, 8, refused(TOO_LONG, 0));
+    let within = &mut long[..LIMIT];
+    says_in_place(judge, "zeros up to the limit", within, 8, hit(1, 488, 36, 2));
+    says_in_place(judge, "zeros up to the limit", within, 9, no_hit(3));
     judge.accepted = true;
 }
 

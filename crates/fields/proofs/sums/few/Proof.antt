@@ -1,4 +1,4 @@
--- The loop keeps: the sum and the total of the bytes left make the total of all, and at most 255 a byte within the limit it fits 32 bits.
+-- The loop keeps: the sum and the total of the bytes left make the total of all, and at most 255 a byte within a piece it fits 32 bits.
 use Prim.Native.Nat.{_+_, _-_, _*_, _≤_}
 use mathlib.Core.Path.{_≡_}
 use native.Mathlib.Omega.{arith}

@@ -1,10 +1,11 @@
--- The loop keeps what `few` keeps, a block a turn (contract of `block`); the bytes after the last block are the contract of `few`.
+-- The loop keeps: the sum and the total from here on make the total of all; a piece a turn (contract of `piece`, `total-on`), until nothing is left.
 use Prim.Native.Nat.{_+_, _-_, _*_, _≤_}
 use mathlib.Core.Path.{_≡_, ap}
 use native.Mathlib.Omega.{arith}
-use lib.ListN.{length, drop, length-drop}
+use lib.ListN.{length, drop}
 use denote.Ref.{now}
 use Rattle.layout.specs.Bytes.{total}
+use Rattle.fields.proofs.Laws.Lists.{part-length, total-on, total-end}
 use Rattle.fields.proofs.sums.sum_of.Statement.{statement}
 use Rattle.fields.proofs.sums.sum_of.Tie as tie
 
@@ -14,35 +15,29 @@ Inv-loop s sum₀ at₀ sum at = (at ≤ length s) × (sum + total (drop at s) �
 abbrev μ-loop : tie.MeasureT-loop
 μ-loop s sum₀ at₀ sum at = length s - at
 
-block-requires : tie.Need-block-requires Inv-loop μ-loop
-block-requires c κs = omega arith
+-- the piece is as long as it is to be
+long : (m : tie.After-part Inv-loop μ-loop) → length (now (m .part .result)) ≡ m .before .piece-length .result
+long m =
+    let after-length = m .before in
+    let loop = after-length .before .before in
+    let s = now (loop .before .before .args .s) in
+    omega (arith, ap length (m .part .ensures), part-length s (loop .loop .at) (after-length .piece-length .result) (omega arith))
 
-abbrev to-loop : tie.After-rest Inv-loop μ-loop → tie.At-loop Inv-loop μ-loop
-to-loop p = p .before .before
+add-sum : tie.Need-add-sum Inv-loop μ-loop
+add-sum c = omega (arith, long (c .before))
 
-abbrev to-start : tie.After-rest Inv-loop μ-loop → tie.Start Inv-loop μ-loop
-to-start p = to-loop p .before .before
-
-few-requires : tie.Need-few-requires Inv-loop μ-loop
-few-requires c κs =
-    let start = to-start c in
-    rw (c .rest .ensures) (omega (arith, length-drop (to-loop c .loop .at) (now (start .args .s))))
-
-add-result : tie.Need-add-result Inv-loop μ-loop
-add-result c =
-    let after-rest = c .before in
-    let start = to-start after-rest in
-    let at = to-loop after-rest .loop .at in
-    let s = now (start .args .s) in
-    omega (arith, ap length (after-rest .rest .ensures), length-drop at s)
+loop-again : tie.Need-loop-again Inv-loop μ-loop
+loop-again c =
+    let after-part = c .before in
+    let after-length = after-part .before in
+    let loop = after-length .before .before in
+    let s = now (loop .before .before .args .s) in
+    omega (arith, long after-part, ap total (after-part .part .ensures), total-on s (loop .loop .at) (after-length .piece-length .result))
 
 returns : tie.Need-returns Inv-loop μ-loop
 returns c =
-    let after-rest = c .before in
-    let start = to-start after-rest in
-    let at = to-loop after-rest .loop .at in
-    let s = now (start .args .s) in
-    omega (arith, ap length (after-rest .rest .ensures), ap total (after-rest .rest .ensures), length-drop at s)
+    let loop = c .before in
+    omega (arith, total-end (now (loop .before .before .args .s)) (loop .loop .at) (omega arith))
 
 pub sum-of-spec : {M : Type 1} → statement M
 sum-of-spec =
@@ -52,12 +47,12 @@ sum-of-spec =
     μ-loop
     (λ c. omega arith)
     (λ c. omega arith)
-    block-requires
-    (λ c. omega arith)
-    (λ c. omega arith)
-    (λ c. omega arith)
-    (λ c. omega arith)
     (λ c κs. omega arith)
-    few-requires
-    add-result
+    (λ c κs. omega arith)
+    (λ c κs. omega (arith, long c))
+    (λ c. omega arith)
+    add-sum
+    (λ c. omega arith)
+    (λ c. omega arith)
+    loop-again
     returns)

@@ -1,4 +1,4 @@
--- The sum so far and the next n bytes make the sum before `to + n` (`total-on`), and at most 255 a byte it still fits 32 bits.
+-- The sum so far and the next n bytes make the sum before `to + n` (`total-on`), and at most 255 a byte it still fits.
 use mathlib.Core.Path.{ap}
 use native.Mathlib.Omega.{arith}
 use denote.Ref.{now}

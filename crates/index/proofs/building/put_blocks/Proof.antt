@@ -16,7 +16,7 @@ use Rattle.index.proofs.building.put_blocks.Tie as tie
 
 abbrev Inv-loop : tie.InvT-loop
 Inv-loop s count out₀ at₀ left₀ number₀ out at left number =
-    Hops left at s × (63 * number + left ≤ 4128768) × Writing out₀ 0 (blocksLeft 0 count 452 s) out (512 * number) (blocksLeft number left at s)
+    Hops left at s × (56 * number + left ≤ 3670016) × Writing out₀ 0 (blocksLeft 0 count 452 s) out (512 * number) (blocksLeft number left at s)
 
 abbrev μ-loop : tie.MeasureT-loop
 μ-loop s count out₀ at₀ left₀ number₀ out at left number = left
@@ -24,7 +24,7 @@ abbrev μ-loop : tie.MeasureT-loop
 loop-holds : tie.Need-loop-holds Inv-loop μ-loop
 loop-holds c =
     let entry = c .before .before in
-    let long = blocks-length (begun 63 (entry .args .count)) 0 (hopped (entry .args .count) 452 (now (entry .args .s))) in (
+    let long = blocks-length (begun 56 (entry .args .count)) 0 (hopped (entry .args .count) 452 (now (entry .args .s))) in (
       (entry .pre) .0,
       omega (arith, few-records (entry .args .count) ((entry .pre) .1)),
       start (now (entry .args .out)) _ _ _ _ refl refl (omega (arith, long, (entry .pre) .2)),
@@ -35,11 +35,11 @@ sheet loop = now (loop .before .before .before .args .s)
 
 -- the records of a full block, and those after it
 split : (m : tie.In-loop Inv-loop μ-loop) → let loop = m .before in
-    Hops 63 (loop .loop .at) (sheet loop) × Hops (loop .loop .left - 63) (placeAfter 63 (loop .loop .at) (sheet loop)) (sheet loop)
+    Hops 56 (loop .loop .at) (sheet loop) × Hops (loop .loop .left - 56) (placeAfter 56 (loop .loop .at) (sheet loop)) (sheet loop)
 split m =
     let loop = m .before in
-    let both : loop .loop .left ≡ 63 + (loop .loop .left - 63) = omega arith in
-    hops-split 63 (loop .loop .left - 63) (loop .loop .at) (sheet loop) (subst (λ k. Hops k (loop .loop .at) (sheet loop)) both (loop .loop .inv .0))
+    let both : loop .loop .left ≡ 56 + (loop .loop .left - 56) = omega arith in
+    hops-split 56 (loop .loop .left - 56) (loop .loop .at) (sheet loop) (subst (λ k. Hops k (loop .loop .at) (sheet loop)) both (loop .loop .inv .0))
 
 put-block-requires : tie.Need-put-block-requires Inv-loop μ-loop
 put-block-requires c κs =
@@ -56,7 +56,7 @@ loop-again c =
     let after-put = c .before .before in
     let m = after-put .before .before in
     let loop = m .before in (
-      subst (λ k. Hops (loop .loop .left - 63) k (sheet loop)) (sym (after-put .put-block .ensures .0)) (split m .1),
+      subst (λ k. Hops (loop .loop .left - 56) k (sheet loop)) (sym (after-put .put-block .ensures .0)) (split m .1),
       omega (arith, loop .loop .inv .1),
       full-on (loop .loop .number) (loop .loop .left) (loop .loop .at) (sheet loop) _ _ _ (loop .loop .inv .2) (omega arith) _
           (after-put .put-block .ensures .1) _ (after-put .put-block .ensures .0),

@@ -12,6 +12,7 @@ use Rattle.index.proofs.Laws.Built.{entry-fits, entry-on}
 use Rattle.index.proofs.Laws.Writing.{Writing, start, done}
 use Rattle.layout.specs.Bytes.{flat}
 use Rattle.layout.specs.Index.Blocks.{encodeEntry}
+use Rattle.layout.specs.declared.BlockKind.the-variants.{New}
 use Rattle.laws.proofs.Index.Entries.{entries-length}
 use Rattle.index.proofs.building.put_entries.Statement.{statement}
 use Rattle.index.proofs.building.put_entries.Tie as tie
@@ -19,7 +20,7 @@ use Rattle.index.proofs.building.put_entries.Tie as tie
 abbrev Inv-loop : tie.InvT-loop
 Inv-loop s first n out₀ w at₀ to₀ i₀ out at to i =
     (i ≤ n) × Hops (n - i) at s × (placeAfter (n - i) at s ≡ placeAfter n first s)
-    × Writing out₀ w (flat encodeEntry (hopped n first s)) out to (flat encodeEntry (hopped (n - i) at s))
+    × Writing out₀ w (flat (encodeEntry New) (hopped n first s)) out to (flat (encodeEntry New) (hopped (n - i) at s))
 
 abbrev μ-loop : tie.MeasureT-loop
 μ-loop s first n out₀ w at₀ to₀ i₀ out at to i = n - i
@@ -31,11 +32,11 @@ loop-holds c =
     let n = entry .args .n in
     let first = entry .args .first in
     let all : n - 0 ≡ n = omega arith in
-    let long = entries-length (hopped n first s) in (
+    let long = entries-length New (hopped n first s) in (
       omega arith,
       hops-all s n first ((entry .pre) .0),
       ap (λ k. placeAfter k first s) all,
-      start (now (entry .args .out)) _ _ _ _ refl (ap (flat encodeEntry) (hopped-all s n first))
+      start (now (entry .args .out)) _ _ _ _ refl (ap (flat (encodeEntry New)) (hopped-all s n first))
           (omega (arith, long, hopped-length n first s, (entry .pre) .1)),
     )
 
@@ -46,7 +47,7 @@ entry-of-requires c κs =
     hop-within (now (entry .args .s)) (entry .args .n) (loop .loop .i) (loop .loop .at) (omega arith) (loop .loop .inv .1) .0
 
 -- there is room for the entry that is looked at
-fits : (m : tie.After-entry-of Inv-loop μ-loop) → let loop = m .before .before in loop .loop .to + 8 ≤ length (loop .loop .out)
+fits : (m : tie.After-entry-of Inv-loop μ-loop) → let loop = m .before .before in loop .loop .to + 9 ≤ length (loop .loop .out)
 fits m =
     let loop = m .before .before in
     let entry = loop .before .before .before in
@@ -86,7 +87,7 @@ returns c =
     let entry = loop .before .before .before in
     let s = now (entry .args .s) in (
       sym (after-all s (entry .args .n) (loop .loop .i) (loop .loop .at) (omega arith)) ∙ loop .loop .inv .2,
-      done _ _ _ _ _ _ (loop .loop .inv .3) (ap (flat encodeEntry) (hopped-none s (entry .args .n) (loop .loop .i) (loop .loop .at) (omega arith))),
+      done _ _ _ _ _ _ (loop .loop .inv .3) (ap (flat (encodeEntry New)) (hopped-none s (entry .args .n) (loop .loop .i) (loop .loop .at) (omega arith))),
     )
 
 pub put-entries-spec : {M : Type 1} → statement M

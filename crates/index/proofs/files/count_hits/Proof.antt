@@ -13,23 +13,25 @@ use Rattle.index.proofs.files.count_hits.Statement.{statement}
 use Rattle.index.proofs.files.count_hits.Tie as tie
 
 abbrev Inv-loop : tie.InvT-loop
-Inv-loop index count code n₀ i₀ n i =
+Inv-loop index kind count code n₀ i₀ n i =
     (i ≤ count) × (n ≤ 3 * i)
-    × (n + length (each (pickEntry code) i (entriesAt index i (count - i))) ≡ length (each (pickEntry code) 0 (entriesAt index 0 count)))
+    × (n + length (each (pickEntry code) i (entriesAt kind index i (count - i))) ≡ length (each (pickEntry code) 0 (entriesAt kind index 0 count)))
 
 abbrev μ-loop : tie.MeasureT-loop
-μ-loop index count code n₀ i₀ n i = count - i
+μ-loop index kind count code n₀ i₀ n i = count - i
 
 loop-holds : tie.Need-loop-holds Inv-loop μ-loop
 loop-holds c =
     let start = c .before in
-    omega (arith, ap (λ l. length (each (pickEntry (start .args .code)) 0 l)) (entries-start (now (start .args .index)) (start .args .count)))
+    let all = entries-start (start .args .kind) (now (start .args .index)) (start .args .count) in
+    omega (arith, ap (λ l. length (each (pickEntry (start .args .code)) 0 l)) all)
 
 entry-at-requires : tie.Need-entry-at-requires Inv-loop μ-loop
 entry-at-requires c κs =
     let loop = c .before .before in
     let start = loop .before .before in
-    place-within (loop .loop .i) (start .args .count) (now (start .args .index)) (omega arith) (start .pre) (c .place-of .result) (c .place-of .ensures)
+    place-within (start .args .kind) (loop .loop .i) (start .args .count) (now (start .args .index)) (omega arith) (start .pre) (c .place-of .result)
+    (c .place-of .ensures)
 
 loop-again : tie.Need-loop-again Inv-loop μ-loop
 loop-again c =
@@ -39,13 +41,13 @@ loop-again c =
     let start = loop .before .before in
     let index = now (start .args .index) in
     let i = loop .loop .i in
-    let rest = entries-turn index (start .args .count) i (omega arith) (after-place .place-of .result) (after-place .place-of .ensures)
+    let rest = entries-turn (start .args .kind) index (start .args .count) i (omega arith) (after-place .place-of .result) (after-place .place-of .ensures)
     (after-entry .entry-at .result) (after-entry .entry-at .ensures) in
     omega (
       arith,
       c .hit-size .ensures .1,
-      count-turn (pickEntry (start .args .code)) i (entriesAt index i (start .args .count - i)) (after-entry .entry-at .result)
-          (entriesAt index (i + 1) (start .args .count - (i + 1))) rest (c .hit-size .result) (c .hit-size .ensures .0),
+      count-turn (pickEntry (start .args .code)) i (entriesAt (start .args .kind) index i (start .args .count - i)) (after-entry .entry-at .result)
+          (entriesAt (start .args .kind) index (i + 1) (start .args .count - (i + 1))) rest (c .hit-size .result) (c .hit-size .ensures .0),
     )
 
 returns : tie.Need-returns Inv-loop μ-loop
@@ -53,7 +55,7 @@ returns c =
     let loop = c .before in
     let start = loop .before .before in
     let none = each-done (pickEntry (start .args .code)) (loop .loop .i) _
-    (entries-done (now (start .args .index)) (start .args .count) (loop .loop .i) (omega arith)) in
+    (entries-done (start .args .kind) (now (start .args .index)) (start .args .count) (loop .loop .i) (omega arith)) in
     omega (arith, ap length none)
 
 pub count-hits-spec : {M : Type 1} → statement M

@@ -13,8 +13,8 @@ use Rattle.index.proofs.files.have_room.Tie as tie
 returns : tie.Need-returns
 returns c =
     let entry = c .before .before in
-    room-for-all (entry .args .code) (entriesAt (now (entry .args .index)) 0 (entry .args .count)) (entry .args .count) (entry .args .room)
-    (at-length (now (entry .args .index)) 0 (entry .args .count)) (omega arith)
+    room-for-all (entry .args .code) (entriesAt (entry .args .kind) (now (entry .args .index)) 0 (entry .args .count)) (entry .args .count) (entry .args .room)
+    (at-length (entry .args .kind) (now (entry .args .index)) 0 (entry .args .count)) (omega arith)
 
 returns-2 : tie.Need-returns-2
 returns-2 c = ap (λ n. leb n (c .before .before .before .args .room)) (c .count-hits .ensures)

@@ -15,10 +15,10 @@ use Rattle.index.proofs.files.read_in.Statement.{statement}
 use Rattle.index.proofs.files.read_in.Tie as tie
 
 abbrev rows : tie.Start → List ℕ
-rows entry = each entryRow 0 (entriesAt (now (entry .args .index)) 0 (entry .args .count))
+rows entry = each entryRow 0 (entriesAt (entry .args .kind) (now (entry .args .index)) 0 (entry .args .count))
 
 long : (entry : tie.Start) → 3 * entry .args .count ≡ length (rows entry)
-long entry = all-rows _ (entry .args .count) (at-length (now (entry .args .index)) 0 (entry .args .count))
+long entry = all-rows _ (entry .args .count) (at-length (entry .args .kind) (now (entry .args .index)) 0 (entry .args .count))
 
 returns : tie.Need-returns
 returns c =

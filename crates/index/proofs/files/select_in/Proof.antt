@@ -14,7 +14,7 @@ use Rattle.index.proofs.files.select_in.Statement.{statement}
 use Rattle.index.proofs.files.select_in.Tie as tie
 
 abbrev hits : tie.Start → List ℕ
-hits entry = each (pickEntry (entry .args .code)) 0 (entriesAt (now (entry .args .index)) 0 (entry .args .count))
+hits entry = each (pickEntry (entry .args .code)) 0 (entriesAt (entry .args .kind) (now (entry .args .index)) 0 (entry .args .count))
 
 returns : tie.Need-returns
 returns c =

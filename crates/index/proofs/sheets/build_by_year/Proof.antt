@@ -8,9 +8,10 @@ use Rattle.index.proofs.Laws.Hopped.{Read, read}
 use Rattle.index.proofs.Laws.Told.{told-refused, told-given}
 use Rattle.layout.specs.Answers.Calls.{reading}
 use Rattle.layout.specs.Index.Blocks.{encodeIndex}
-use Rattle.layout.specs.Index.Selecting.{entriesOf, indexOf}
+use Rattle.layout.specs.Index.Selecting.{entriesOf, indexBy}
 use Rattle.layout.specs.Reading.Sheets.{start}
 use Rattle.layout.specs.Sheet.{Sheet}
+use Rattle.layout.specs.declared.BlockKind.the-variants.{New}
 use Rattle.laws.proofs.Base.Numbers.{all-bytes}
 use Rattle.reading.proofs.Laws.Seen.{seen, refused-is}
 use borrow.Author.Needs.{needs}
@@ -36,22 +37,22 @@ build-in-requires : tie.Need-build-in-requires
 build-in-requires c κs = let m = c .before .before .before in (accepted m .1 .hops, accepted m .1 .few)
 
 returns : tie.Need-returns
-unfolding indexOf
+unfolding indexBy
 returns c =
     let after-in = c .before .before in
     let m = after-in .before .before .before .before in
     let entry = to-check m .before .before .before in
     let known = accepted m .1 in
-    told-given (reading (entry .args .year) (sheet m)) (λ (t : Sheet). encodeIndex (entriesOf start (t .records))) (now (entry .args .index))
-    (known .sheet) (known .is) _ (ap encodeIndex (sym (known .entries))) _ _ (after-in .build-in .ensures)
+    told-given (reading (entry .args .year) (sheet m)) (λ (t : Sheet). encodeIndex New (entriesOf start (t .records))) (now (entry .args .index))
+    (known .sheet) (known .is) _ (ap (encodeIndex New) (sym (known .entries))) _ _ (after-in .build-in .ensures)
 
 returns-2 : tie.Need-returns-2
-unfolding indexOf
+unfolding indexBy
 returns-2 c =
     let after-r = c .before in
     let after-check = after-r .before .before in
     let entry = after-check .before .before .before in
-    told-refused (reading (entry .args .year) (now (entry .args .s))) (λ (t : Sheet). encodeIndex (entriesOf start (t .records)))
+    told-refused (reading (entry .args .year) (now (entry .args .s))) (λ (t : Sheet). encodeIndex New (entriesOf start (t .records)))
     (now (entry .args .index)) _ (refused-is _ _ _ _ (after-check .check-by-year .ensures) (after-r .r .given .1))
 
 pub build-by-year-spec : {M : Type 1} → statement M

@@ -11,14 +11,15 @@ use Rattle.index.proofs.Laws.Built.{index-long, index-is}
 use Rattle.index.proofs.Laws.Hopped.{hopped-length}
 use Rattle.index.proofs.Laws.Told.{told-short, told-fits}
 use Rattle.layout.specs.Index.Blocks.{encodeIndex}
+use Rattle.layout.specs.declared.BlockKind.the-variants.{New}
 use borrow.Author.Needs.{needs}
 use Rattle.index.proofs.sheets.build_in.Statement.{statement}
 use Rattle.index.proofs.sheets.build_in.Tie as tie
 
 abbrev whole : tie.Start → List ℕ
-whole entry = encodeIndex (hopped (entry .args .count) 452 (now (entry .args .s)))
+whole entry = encodeIndex New (hopped (entry .args .count) 452 (now (entry .args .s)))
 
-long : (entry : tie.Start) → 512 * ((entry .args .count + 62) / 63) ≡ length (whole entry)
+long : (entry : tie.Start) → 512 * ((entry .args .count + 55) / 56) ≡ length (whole entry)
 long entry = index-long _ (entry .args .count) (hopped-length (entry .args .count) 452 (now (entry .args .s)))
 
 returns : tie.Need-returns

@@ -4,6 +4,7 @@ use mathlib.Core.List.{List}
 use mathlib.Core.Path.{ap, sym, _∙_}
 use Prim.Native.Nat.{ℕ}
 use native.Mathlib.Omega.{arith}
+use Rattle.index.proofs.Laws.Built.{few-records}
 use Rattle.index.proofs.Laws.Hopped.{Read, read}
 use Rattle.index.proofs.Laws.Told.{told-refused, told-given}
 use Rattle.layout.specs.Answers.Calls.{reading}
@@ -33,7 +34,7 @@ accepted m =
     )
 
 select-in-requires : tie.Need-select-in-requires
-select-in-requires c κs = let m = c .before .before .before in (accepted m .1 .hops, accepted m .1 .few)
+select-in-requires c κs = let m = c .before .before .before in (accepted m .1 .hops, omega (arith, few-records _ (accepted m .1 .few)))
 
 returns : tie.Need-returns
 unfolding picked
