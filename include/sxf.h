@@ -39,7 +39,8 @@
  *     if (sxf_version() != SXF_VERSION) ..
  *
  * 4: a sheet may have 67,108,864 bytes, where it had 16,777,216 at most, and a block of a new code index has 56 entries, where it had 63. A
- * program that was built with an earlier SXF_LIMIT or SXF_INDEX_LENGTH lends too little for such a sheet or index, and is answered SXF_ROOM.
+ * program that was built with an earlier SXF_LIMIT or SXF_INDEX_LENGTH lends too little for such a sheet, and for many an index, and is answered
+ * SXF_ROOM; where what it lends is enough, it gets an index of new blocks. An archive of version 3 or older refuses new blocks, SXF_BAD_BLOCK at 0.
  * 3: sxf_head has four fields more, which tell whether the tails of the text fields are clean, and a sheet with a tail that is not is read.
  * 2: a record's row has nine numbers, and sxf_record the field mark. Headers of rows of eight numbers have no version, and their archives
  * no sxf_version.

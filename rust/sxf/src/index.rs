@@ -56,7 +56,8 @@ pub use sxf_sys::index::{index_length, BLOCK_FULL, BLOCK_SIZE};
 /// How long an index is at most, of either kind: "block number from 0 (2 bytes)" has no more blocks. That of a sheet is shorter.
 pub const LONGEST: usize = (u16::MAX as usize + 1) * BLOCK_SIZE;
 
-/// An index that was checked: its bytes.
+/// An index that was checked: its bytes. Two are equal where their bytes are, so an old one and a new one of the same sheet are not: compare their
+/// [entries](Index::entries).
 #[derive(Clone, Debug, PartialEq, Eq)]
 pub struct Index {
     bytes: Vec<u8>,

@@ -55,7 +55,7 @@ named! {
     SHORT "SHORT" "the sheet, or what is left of it for a record, is too short"
     NOT_SXF "NOT SXF" "an identifier differs, so this is no SXF sheet or it is damaged here"
     EDITION "EDITION" "a fixed length or the edition is not that of SXF 4.0"
-    SUM "SUM" "the sum of the sheet's bytes is not the one stored, so the sheet was changed or cut short"
+    SUM "SUM" "the sum of the sheet's bytes, of which the low 32 bits are kept, is not the one stored, so the sheet was changed or cut short"
     TEXT "TEXT" "a text field has no zero, a text is too long for its field or has a zero in it, or a closing zero is missing"
     RESERVED "RESERVED" "a flag, code or reserved field has a value that is not allowed"
     TOO_NEW "TOO NEW" "a feature here is later than the setting"
