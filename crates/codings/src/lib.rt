@@ -5,6 +5,8 @@
 // Promised: the two calls of `utf16` take every value of their parameters (none has a `requires`), and the contract of each is two equations
 // with these definitions, which settle the answer and every number of the lent slice, refusals too (proofs/Once.antt). What holds of each
 // table is in `laws` (Codings): no two bytes of a coding share a character, and turning there and back gives the same bytes.
+#![tactic(auto)]
+
 mod bytes;
 mod characters;
 mod slots;

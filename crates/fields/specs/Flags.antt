@@ -5,7 +5,7 @@ use Rattle.layout.specs.Fields.Descriptor
 use Rattle.layout.specs.Fields.Passport
 use Rattle.layout.specs.Shared.Carried.{state, label_coding, allowed, rest_checks, carried_checks}
 use Rattle.layout.specs.Walk.{Check, dated}
-use Rattle.layout.specs.Years.{since, accuracy_set, special-sorting, epsg-set, north-offset, east-offset, automatic_guid, edit-date}
+use Rattle.layout.specs.Years.{since, accuracy_set, special_sorting, epsg_set, north_offset, east_offset, automatic_guid, edit_date}
 
 abbrev pub rest_by : ℕ → ℕ → ℕ → ℕ → ℕ → Bool → Bool → List Check
 rest_by flags labels accuracy sorting epsg north east =
@@ -14,10 +14,10 @@ rest_by flags labels accuracy sorting epsg north east =
     ∷ allowed (leb accuracy 3) Passport.accuracy
     ∷ dated (not (eqb accuracy 0)) (since accuracy_set) (Passport.accuracy).place
     ∷ allowed (eqb (bits 1 7 sorting) 0) Passport.sorting
-    ∷ dated (bit 0 sorting) (since special-sorting) (Passport.sorting).place
-    ∷ dated (not (eqb epsg 0)) (since epsg-set) (Passport.epsg).place
-    ∷ dated north (since north-offset) (Passport.north).place
-    ∷ dated east (since east-offset) (Passport.east).place
+    ∷ dated (bit 0 sorting) (since special_sorting) (Passport.sorting).place
+    ∷ dated (not (eqb epsg 0)) (since epsg_set) (Passport.epsg).place
+    ∷ dated north (since north_offset) (Passport.north).place
+    ∷ dated east (since east_offset) (Passport.east).place
     ∷ []
 
 abbrev pub carried_by : ℕ → ℕ → ℕ → ℕ → List Check
@@ -27,7 +27,7 @@ carried_by flags labels secrecy keeping =
     ∷ allowed (leb secrecy 5) Descriptor.secrecy
     ∷ allowed (eqb (bits 2 7 keeping) 0) Descriptor.keeping
     ∷ dated (bit 0 keeping) (since automatic_guid) (Descriptor.keeping).place
-    ∷ dated (bit 1 keeping) (since edit-date) (Descriptor.keeping).place
+    ∷ dated (bit 1 keeping) (since edit_date) (Descriptor.keeping).place
     ∷ []
 
 pub rest_by_lem : (r : List ℕ)

@@ -12,7 +12,7 @@ use layout::header;
 use layout::refusals::{LENGTH, NOT_SXF, SHORT};
 
 // b20 to b22 are the reference bytes.
-#[derive(Drop)]
+#[derive(Clone, Copy)]
 pub struct Header {
     pub identifier: u32,
     pub total: u32,

@@ -8,7 +8,7 @@ ghost use Rattle.layout.specs.Shared.Types.{kind_of, is_known, is_long, good_sca
 use crate::numbers;
 use layout::item;
 
-#[derive(Drop)]
+#[derive(Clone, Copy)]
 pub enum Kind {
     Narrow,
     Wide,

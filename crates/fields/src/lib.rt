@@ -7,6 +7,8 @@
 // Relied on: the definitions of `layout`, and the laws of `laws`. Promised: each contract holds the answer to a definition, as an equation, as
 // the step of a list of checks, or with a bound beside it; what writes says that the bytes of a definition stand at the place, and that
 // nothing else is changed. What has a `requires` here is called by the library's own crates only, after they have seen that it holds.
+#![tactic(auto)]
+
 pub mod copies;
 pub mod elements;
 pub mod flags;

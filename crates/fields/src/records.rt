@@ -32,7 +32,7 @@ pub fn reference_number(b20: u8, b21: u8, b22: u8) -> u32
     (b20 as u32) + 256 * (b21 as u32) + 65536 * (b22 as u32)
 }
 
-#[derive(Drop)]
+#[derive(Clone, Copy)]
 pub struct ReferenceBytes {
     pub b20: u8,
     pub b21: u8,

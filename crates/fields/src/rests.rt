@@ -6,7 +6,7 @@ ghost use Rattle.layout.specs.Fields.Passport;
 use crate::numbers;
 use layout::rest;
 
-#[derive(Drop)]
+#[derive(Clone, Copy)]
 pub struct UnitBytes {
     pub flags: u8,
     pub resolution: u32,

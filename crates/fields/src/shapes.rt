@@ -5,7 +5,7 @@ ghost use Rattle.layout.specs.Shared.Row.{reference_of};
 
 use crate::records;
 
-#[derive(Drop)]
+#[derive(Clone, Copy)]
 pub struct Shape {
     pub size: bool,
     pub float: bool,
@@ -61,7 +61,7 @@ pub fn point_size(s: Shape) -> usize
 
 // The loop that serves a shape's elements: one for each width, and one for points of two elements of two bytes and a height of four, the one
 // kind of point whose elements are not all of one width.
-#[derive(Drop)]
+#[derive(Clone, Copy)]
 pub enum Loop {
     Two,
     Four,

@@ -7,7 +7,7 @@ ghost use Rattle.layout.specs.Walk.{must, dated};
 use layout::Refusal;
 use layout::refusals::TOO_NEW;
 
-#[derive(Drop)]
+#[derive(Clone, Copy)]
 pub enum Step {
     Fine,
     Refused(Refusal),

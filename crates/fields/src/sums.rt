@@ -84,7 +84,7 @@ pub fn sum_of(s: &[u8]) -> u64
 }
 
 // A sum that is not complete: the bytes before `to` add up to it.
-#[derive(Drop)]
+#[derive(Clone, Copy)]
 pub struct Summed {
     pub sum: u64,
     pub to: usize,

@@ -42,13 +42,13 @@ pub fn is_text_field(s: &[u8]) -> bool
 }
 
 // How long the text of a field is, and whether its tail is clean.
-#[derive(Drop)]
+#[derive(Clone, Copy)]
 pub struct TextAt {
     pub length: usize,
     pub clean: bool,
 }
 
-pub fn text_at_lem(s: &[u8]) -> TextAt
+pub fn text_at(s: &[u8]) -> TextAt
     ensures { result ≡ text_at s.now }
 {
     let length = text_length(s);

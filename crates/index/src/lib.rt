@@ -7,6 +7,8 @@
 // equation with these definitions, and another for the lent slice, which settle the answer and every number of the slice, refusals too
 // (proofs/Once.antt). That selecting through the index of a sheet is selecting from the sheet is a law (laws, Index) and a promise of the
 // contracts (promises, Index).
+#![tactic(auto)]
+
 mod blocks;
 mod building;
 mod entries;

@@ -5,3 +5,4 @@
 // agree on the years a sheet needs (Newest); both round trips, uncut texts, and later years (Again); the sizes that code relies on
 // (Bounds); texts turned there and back (Codings); what an index is and selects (Index); how many headers a hop looks at, what it finds and what its
 // answer rests on (Hop); and document 01's marked cases (Marked), with further cases for each refusal at its place (Cases).
+#![tactic(auto)]

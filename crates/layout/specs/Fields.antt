@@ -1,5 +1,5 @@
 -- Where everything stands: each place, width and fixed value of documents 01 and 02, once.
--- A field is written as it is in the document, as `+28 designation, 32`; a name with `-is` is the one value that its field may hold, in
+-- A field is written as it is in the document, as `+28 designation, 32`; a name with `_is` is the one value that its field may hold, in
 -- a block by its kind.
 use Rattle.std.specs.Prelude.{ℕ}
 pub mod Passport

@@ -13,33 +13,33 @@ abbrev pub is_setting : ℕ → Bool
 is_setting year = one_of settings year
 
 pub data Feature : Type 0 where
-  spline-bits north-offset east-offset mark-65535 : Feature
+  spline_bits north_offset east_offset mark_65535 : Feature
   accuracy_set : Feature
-  special-sorting binding-vector unicode : Feature
+  special_sorting binding_vectors unicode : Feature
   type_128 : Feature
-  above-all below_all : Feature
+  above_all below_all : Feature
   compressed_graphics : Feature
   multipolygon : Feature
   automatic_guid : Feature
-  epsg-set vertical-alignment edit-date : Feature
+  epsg_set vertical_alignment edit_date : Feature
 
 -- "All else is 1999": what is no feature has no year of its own, and every setting has it.
 abbrev pub since : Feature → ℕ
 -- "2004 spline bits, offsets at +384 and +392 (any non-zero byte), the mark 65535"
-since spline-bits = 2004
-since north-offset = 2004
-since east-offset = 2004
-since mark-65535 = 2004
+since spline_bits = 2004
+since north_offset = 2004
+since east_offset = 2004
+since mark_65535 = 2004
 -- "2006 accuracy not 0"
 since accuracy_set = 2006
 -- "2008 special sorting, binding vector, Unicode"
-since special-sorting = 2008
-since binding-vector = 2008
+since special_sorting = 2008
+since binding_vectors = 2008
 since unicode = 2008
 -- "2012 type 128"
 since type_128 = 2012
 -- "2014 above, below"
-since above-all = 2014
+since above_all = 2014
 since below_all = 2014
 -- "2015 compressed graphics"
 since compressed_graphics = 2015
@@ -48,9 +48,9 @@ since multipolygon = 2016
 -- "2017 automatic GUID"
 since automatic_guid = 2017
 -- "Undated in 000 and set here to 2017: EPSG not 0, vertical alignment, edit date."
-since epsg-set = 2017
-since vertical-alignment = 2017
-since edit-date = 2017
+since epsg_set = 2017
+since vertical_alignment = 2017
+since edit_date = 2017
 
 cases : (is_setting 1999 ≡ true) × (is_setting 2017 ≡ true) × (is_setting 2005 ≡ false) × (is_setting 2018 ≡ false) × (is_setting 0 ≡ false)
 cases = (refl, refl, refl, refl, refl)

@@ -1,5 +1,6 @@
 // What the library answers: the types of its answers, and beside them (specs/) the definitions of documents 01 and 02 that say
 // which answer is given when. Nothing here runs, and nothing is relied on. The contracts of the crates above say what they mean by these definitions.
+#![tactic(auto)]
 
 pub mod block;
 pub mod bounds;
@@ -21,7 +22,7 @@ pub mod years;
 
 // One named refusal: the documents' number, the place (a byte of the sheet or of the index file, or an index of the table or the text), and
 // the year, which is 0 except for TOO NEW.
-#[derive(Drop)]
+#[derive(Clone, Copy)]
 pub struct Refusal {
     pub number: u32,
     pub place: usize,
@@ -29,7 +30,7 @@ pub struct Refusal {
 }
 
 // What an accepted sheet has: the low 32 bits of its sum, its count of records, and the lengths of the three outputs of unfolding it.
-#[derive(Drop)]
+#[derive(Clone, Copy)]
 pub struct Sizes {
     pub sum: u32,
     pub records: u32,
@@ -39,14 +40,14 @@ pub struct Sizes {
 }
 
 // What checking or unfolding a sheet answers.
-#[derive(Drop)]
+#[derive(Clone, Copy)]
 pub enum Checked {
     Accepted(Sizes),
     Refused(Refusal),
 }
 
 // One record: where it starts, its total length, its nine numbers, and its first part's points.
-#[derive(Drop)]
+#[derive(Clone, Copy)]
 pub struct RecordAt {
     pub place: usize,
     pub total: usize,
@@ -63,7 +64,7 @@ pub struct RecordAt {
 }
 
 // What asking for a record by its number answers.
-#[derive(Drop)]
+#[derive(Clone, Copy)]
 pub enum Found {
     Record(RecordAt),
     Refused(Refusal),
@@ -71,7 +72,7 @@ pub enum Found {
 
 // The head of a sheet, as the writer takes it: the lengths of the four texts, which start at 16, 28, 64 and 408, and the scale. The
 // carried bytes are the 304 from 96 on and the four at 444. A text field is clean if it has only zeros after its text.
-#[derive(Drop)]
+#[derive(Clone, Copy)]
 pub struct HeadAt {
     pub date: usize,
     pub designation: usize,
@@ -84,14 +85,14 @@ pub struct HeadAt {
     pub designation2_clean: bool,
 }
 
-#[derive(Drop)]
+#[derive(Clone, Copy)]
 pub enum Headed {
     Head(HeadAt),
     Refused(Refusal),
 }
 
 // What a code index has of a record: its class code, its place in the sheet, its localisation.
-#[derive(Drop)]
+#[derive(Clone, Copy)]
 pub struct Entry {
     pub code: u32,
     pub place: usize,
@@ -99,21 +100,21 @@ pub struct Entry {
 }
 
 // The two kinds of blocks: "new blocks carry 56 entries of 9 bytes with a 4-byte place [..]. Old blocks stay readable" (02, request 7).
-#[derive(Drop)]
+#[derive(Clone, Copy)]
 pub enum BlockKind {
     Old,
     New,
 }
 
 // What an index has: its entries, and the blocks in which they stand.
-#[derive(Drop)]
+#[derive(Clone, Copy)]
 pub struct IndexSizes {
     pub entries: usize,
     pub blocks: usize,
 }
 
 // What checking an index answers.
-#[derive(Drop)]
+#[derive(Clone, Copy)]
 pub enum Indexed {
     Accepted(IndexSizes),
     Refused(Refusal),
@@ -121,7 +122,7 @@ pub enum Indexed {
 
 // What hopping from header to header finds: whether there is a record of the code that is asked for; its number from 0, where it starts and its
 // total length, which are 0 where there is none; and how many headers were looked at.
-#[derive(Drop)]
+#[derive(Clone, Copy)]
 pub struct Hop {
     pub found: bool,
     pub record: u32,
@@ -130,7 +131,7 @@ pub struct Hop {
     pub looked: u32,
 }
 
-#[derive(Drop)]
+#[derive(Clone, Copy)]
 pub enum Hopped {
     Hop(Hop),
     Refused(Refusal),
@@ -138,14 +139,14 @@ pub enum Hopped {
 
 // What each call answers that writes one slice (a sheet, a text that is turned, an index, a selection): how much of it, from its start, was
 // written.
-#[derive(Drop)]
+#[derive(Clone, Copy)]
 pub enum Written {
     Length(usize),
     Refused(Refusal),
 }
 
 // The unit of a sheet's coordinates; a real sheet of unknown unit keeps the byte that says so.
-#[derive(Drop)]
+#[derive(Clone, Copy)]
 pub enum SheetUnit {
     DevicePoints,
     Metres,
@@ -154,21 +155,21 @@ pub enum SheetUnit {
     Unknown(u8),
 }
 
-#[derive(Drop)]
+#[derive(Clone, Copy)]
 pub enum UnitAnswer {
     Unit(SheetUnit),
     Refused(Refusal),
 }
 
 // The unit of a sheet's heights, which have a byte of their own; one that names no unit is kept.
-#[derive(Drop)]
+#[derive(Clone, Copy)]
 pub enum HeightUnit {
     Metres,
     Unknown(u8),
 }
 
 // Which number of a point an element is, in the order in which they are stored.
-#[derive(Drop)]
+#[derive(Clone, Copy)]
 pub enum Dimension {
     North,
     East,
@@ -176,7 +177,7 @@ pub enum Dimension {
 }
 
 // An element as stored: an integer of two or four bytes, or a floating number of four or eight.
-#[derive(Drop)]
+#[derive(Clone, Copy)]
 pub enum Stored {
     Short(u16),
     Long(u32),
@@ -185,14 +186,14 @@ pub enum Stored {
 }
 
 // What asking for the element that stored bits are answers.
-#[derive(Drop)]
+#[derive(Clone, Copy)]
 pub enum ElementAnswer {
     Element(Stored),
     Refused(Refusal),
 }
 
 // An element in the unit of the sheet that it stands in. A height has its own unit, and never that of the plane.
-#[derive(Drop)]
+#[derive(Clone, Copy)]
 pub enum Measured {
     Plane(SheetUnit, Stored),
     Height(HeightUnit, Stored),
@@ -200,7 +201,7 @@ pub enum Measured {
 }
 
 // What an element stands for. A floating element that is no number (NaN) keeps its bits.
-#[derive(Drop)]
+#[derive(Clone, Copy)]
 pub enum Number {
     Whole(i64),
     Single(f32),
@@ -209,7 +210,7 @@ pub enum Number {
 }
 
 // The eight plane corners as stored: south-west, north-west, north-east, south-east.
-#[derive(Drop)]
+#[derive(Clone, Copy)]
 pub struct CornerBits {
     pub sw_x: u64,
     pub sw_y: u64,
@@ -222,7 +223,7 @@ pub struct CornerBits {
 }
 
 // The eight plane corners as doubles.
-#[derive(Drop)]
+#[derive(Clone, Copy)]
 pub struct PlaneCorners {
     pub sw_x: f64,
     pub sw_y: f64,
@@ -234,7 +235,7 @@ pub struct PlaneCorners {
     pub se_y: f64,
 }
 
-#[derive(Drop)]
+#[derive(Clone, Copy)]
 pub enum Corners {
     Doubles(PlaneCorners),
     // At least one corner is a NaN: the place of the first, and all eight as stored.
@@ -243,21 +244,21 @@ pub enum Corners {
 }
 
 // The visibility of a generalisation byte: none set, or the denominators of its lower and upper bound.
-#[derive(Drop)]
+#[derive(Clone, Copy)]
 pub enum Visibility {
     Unset,
     Bounds(u32, u32),
 }
 
 // whole × 10 ^ power
-#[derive(Drop)]
+#[derive(Clone, Copy)]
 pub struct Decimal {
     pub whole: i64,
     pub power: i64,
 }
 
 // The value of a semantic item as a number: an integer with its scale, or a double. A double that is no number (NaN) keeps its bits.
-#[derive(Drop)]
+#[derive(Clone, Copy)]
 pub enum SemanticValue {
     Number(Decimal),
     Double(f64),

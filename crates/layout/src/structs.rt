@@ -5,7 +5,7 @@ pub const VERSION: u32 = 4;
 
 // number 0: accepted, with its sizes. Otherwise the refusal, and the sizes are 0.
 #[repr(C)]
-#[derive(Drop)]
+#[derive(Clone, Copy)]
 pub struct SxfChecked {
     pub number: u64,
     pub place: u64,
@@ -19,7 +19,7 @@ pub struct SxfChecked {
 
 // number 0: written, so many bytes, 16-bit units or numbers. Otherwise the refusal, and the length is 0.
 #[repr(C)]
-#[derive(Drop)]
+#[derive(Clone, Copy)]
 pub struct SxfWritten {
     pub number: u64,
     pub place: u64,
@@ -29,7 +29,7 @@ pub struct SxfWritten {
 
 // number 0: an index of so many entries, in so many blocks. Otherwise the refusal, and the rest is 0.
 #[repr(C)]
-#[derive(Drop)]
+#[derive(Clone, Copy)]
 pub struct SxfIndex {
     pub number: u64,
     pub place: u64,
@@ -41,7 +41,7 @@ pub struct SxfIndex {
 // number 0: found is 1 where there is a record of the code, and 0 where there is none; then its number, `at` and total are 0 too. looked is how
 // many headers were looked at. Otherwise the refusal, and the rest is 0.
 #[repr(C)]
-#[derive(Drop)]
+#[derive(Clone, Copy)]
 pub struct SxfHop {
     pub number: u64,
     pub place: u64,
@@ -55,7 +55,7 @@ pub struct SxfHop {
 
 // number 0: the record that starts at `at`. Otherwise the refusal, and the rest is 0.
 #[repr(C)]
-#[derive(Drop)]
+#[derive(Clone, Copy)]
 pub struct SxfRecord {
     pub number: u64,
     pub place: u64,
@@ -76,7 +76,7 @@ pub struct SxfRecord {
 
 // number 0: the lengths of the four texts, the scale, and for each text field 1 if it is clean. Otherwise the refusal, and the rest is 0.
 #[repr(C)]
-#[derive(Drop)]
+#[derive(Clone, Copy)]
 pub struct SxfHead {
     pub number: u64,
     pub place: u64,
@@ -105,7 +105,7 @@ pub const UNKNOWN_UNIT: u64 = 5;
 
 // number 0: a unit, and for an unknown one the byte that names none. Otherwise the refusal, and the rest is 0.
 #[repr(C)]
-#[derive(Drop)]
+#[derive(Clone, Copy)]
 pub struct SxfUnit {
     pub number: u64,
     pub place: u64,
@@ -116,7 +116,7 @@ pub struct SxfUnit {
 
 // number 0: the bits of the eight, and the place of the first that is a NaN, or 0. Otherwise the refusal, and the rest is 0.
 #[repr(C)]
-#[derive(Drop)]
+#[derive(Clone, Copy)]
 pub struct SxfCorners {
     pub number: u64,
     pub place: u64,
@@ -134,7 +134,7 @@ pub struct SxfCorners {
 
 // set 1: the denominators of the two bounds. set 0: none is set, and both are 0.
 #[repr(C)]
-#[derive(Drop)]
+#[derive(Clone, Copy)]
 pub struct SxfVisibility {
     pub set: u64,
     pub lower: u64,
@@ -164,7 +164,7 @@ pub const HEIGHT: u32 = 2;
 // number 0: an element of so many bytes in a unit, what kind of number it is, and the bits of the double that it stands for; for a NaN the
 // bits are those stored. Otherwise the refusal, and the rest is 0.
 #[repr(C)]
-#[derive(Drop)]
+#[derive(Clone, Copy)]
 pub struct SxfCoordinate {
     pub number: u64,
     pub place: u64,
@@ -179,7 +179,7 @@ pub struct SxfCoordinate {
 // number 0: kind says whether the value is whole times ten to the power, a double or a NaN of these bits, or a text, which is no number.
 // Otherwise the refusal. What a value does not have is 0.
 #[repr(C)]
-#[derive(Drop)]
+#[derive(Clone, Copy)]
 pub struct SxfValue {
     pub number: u64,
     pub place: u64,

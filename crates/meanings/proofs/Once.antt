@@ -35,9 +35,9 @@ use Rattle.meanings.proofs.units.unit_of.Reads as unit-of
 use Rattle.meanings.proofs.units.height_unit_of.Kinds as height-unit-of-kinds
 use Rattle.meanings.proofs.units.height_unit_of.Reads as height-unit-of
 use Rattle.meanings.proofs.units.number_of.Kinds as number-of-kinds
-use Rattle.meanings.proofs.units.number_of.Reads as number_of
+use Rattle.meanings.proofs.units.number_of.Reads as number-of
 use Rattle.meanings.proofs.values.value_of.Kinds as value-of-kinds
-use Rattle.meanings.proofs.values.value_of.Reads as value_of_lem
+use Rattle.meanings.proofs.values.value_of.Reads as value-of
 use Rattle.meanings.proofs.visibility.visibility_of.Kinds as visibility-of-kinds
 use Rattle.meanings.proofs.visibility.visibility_of.Reads as visibility-of
 use borrow.Fn.Kinds.{ParamKind, ResultKind, Dens, Out, res_t, ended_of}
@@ -101,10 +101,10 @@ once_unit-of κs a x y e f p q = p ∙ sym q
 pub once_height-unit-of : Once height-unit-of-kinds.ps height-unit-of-kinds.r height-unit-of.Post
 once_height-unit-of κs a x y e f p q = p ∙ sym q
 
-pub once_number-of : Once number-of-kinds.ps number-of-kinds.r number_of.Post
+pub once_number-of : Once number-of-kinds.ps number-of-kinds.r number-of.Post
 once_number-of κs a x y e f p q = p ∙ sym q
 
-pub once_value-of : Once value-of-kinds.ps value-of-kinds.r value_of_lem.Post
+pub once_value-of : Once value-of-kinds.ps value-of-kinds.r value-of.Post
 once_value-of κs a x y e f p q = p ∙ sym q
 
 pub once_visibility-of : Once visibility-of-kinds.ps visibility-of-kinds.r visibility-of.Post

@@ -11,23 +11,23 @@ use layout::{
     Dimension, ElementAnswer, HeightUnit, Measured, Number, Refusal, SheetUnit, Stored, passport,
 };
 
-#[derive(Drop)]
+#[derive(Clone, Copy)]
 pub struct DevicePoints(Number);
 
-#[derive(Drop)]
+#[derive(Clone, Copy)]
 pub struct Metres(Number);
 
-#[derive(Drop)]
+#[derive(Clone, Copy)]
 pub struct Radians(Number);
 
-#[derive(Drop)]
+#[derive(Clone, Copy)]
 pub struct Degrees(Number);
 
 // Of a real sheet of unknown unit: the byte that says so, and the number.
-#[derive(Drop)]
+#[derive(Clone, Copy)]
 pub struct UnknownUnit(u8, Number);
 
-#[derive(Drop)]
+#[derive(Clone, Copy)]
 pub enum Coordinate {
     DevicePoints(DevicePoints),
     Metres(Metres),
@@ -37,10 +37,10 @@ pub enum Coordinate {
 }
 
 // A height, in the unit that the passport has for heights.
-#[derive(Drop)]
+#[derive(Clone, Copy)]
 pub struct Height(HeightUnit, Number);
 
-#[derive(Drop)]
+#[derive(Clone, Copy)]
 pub enum CoordinateAnswer {
     Plane(Coordinate),
     Height(Height),

@@ -9,6 +9,8 @@
 // kit's `nan_bits` (`not_number`). Beside its equation `Setting::new` says that the year is one of the nine. So for each input one answer is
 // right (proofs/Once.antt). Besides: a double of the corners has the bits stored (proofs/Same.antt), a coordinate is in the unit of its sheet
 // (proofs/Measures.antt), and the number of an item is the one that `layout` gives the item (proofs/Items.antt).
+#![tactic(auto)]
+
 pub mod coordinates;
 pub mod corners;
 pub mod elements;

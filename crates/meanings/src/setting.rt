@@ -8,12 +8,12 @@ use layout::refusals::ASK;
 use layout::{Refusal, years};
 
 // The year is private, so that a setting is one of the nine constants, or was made by `new`.
-#[derive(Drop)]
+#[derive(Clone, Copy)]
 pub struct Setting {
     year: u32,
 }
 
-#[derive(Drop)]
+#[derive(Clone, Copy)]
 pub enum Made {
     At(Setting),
     Refused(Refusal),

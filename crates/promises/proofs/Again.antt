@@ -6,7 +6,6 @@ use mathlib.Core.List.{List}
 use mathlib.Core.Path.{◌≡◌, refl, sym, ap, ap₂, ◌∙◌, subst}
 use Prim.Native.Nat.{ℕ, ◌≤◌}
 use lib.ListN.{length, take}
-use native.Mathlib.Omega.{arith}
 use Rattle.layout.specs.Answers.Calls.{and_then, reading, in_rooms, roomy, unfolded, written, over, lent}
 use Rattle.layout.specs.Answers.Enums.{sizes_of, checked_of, head_at, headed_of, written_of}
 use Rattle.layout.specs.Answers.Lent.{rooms, the_numbers, the_elements, the_bytes, the_sheet}
@@ -15,7 +14,7 @@ use Rattle.layout.specs.Layout.Cleared.{cleared}
 use Rattle.layout.specs.Reading.Sheets.{head_in, tails_in}
 use Rattle.layout.specs.Shared.Tails.{AllClean, clean_tails}
 use Rattle.layout.specs.Sheet.{Head, Sheet, Table}
-use Rattle.layout.specs.Walk.{Answer, given, refused}
+use Rattle.layout.specs.Walk.{given}
 use Rattle.layout.specs.Writing.Tables.{table, flatten}
 use Rattle.layout.specs.declared.Checked.TheVariants as Check
 use Rattle.layout.specs.declared.Checked.{Checked}

@@ -18,7 +18,7 @@ use Rattle.hop.proofs.sheets.frame_of.Reads as frame-of
 use Rattle.index.proofs.files.check.Kinds as index-check-kinds
 use Rattle.index.proofs.files.check.Reads as index-check
 use Rattle.index.proofs.files.read.Kinds as index-read-kinds
-use Rattle.index.proofs.files.read.Reads as index_read
+use Rattle.index.proofs.files.read.Reads as index-read
 use Rattle.index.proofs.files.select.Kinds as index-select-kinds
 use Rattle.index.proofs.files.select.Reads as index-select
 use Rattle.index.proofs.sheets.build.Kinds as build-kinds
@@ -59,8 +59,8 @@ use Rattle.reading.proofs.heads.corners_of.Kinds as corners-kinds
 use Rattle.reading.proofs.heads.corners_of.Reads as corners-of
 use Rattle.reading.proofs.heads.head_by_year.Kinds as head-by-year-kinds
 use Rattle.reading.proofs.heads.head_by_year.Reads as head-by-year
-use Rattle.reading.proofs.heads.head-of.Kinds as head-kinds
-use Rattle.reading.proofs.heads.head-of.Reads as head-of
+use Rattle.reading.proofs.heads.head_of.Kinds as head-kinds
+use Rattle.reading.proofs.heads.head_of.Reads as head-of
 use Rattle.reading.proofs.heads.unit_by_year.Kinds as unit-by-year-kinds
 use Rattle.reading.proofs.heads.unit_by_year.Reads as unit-by-year
 use Rattle.reading.proofs.heads.unit_of.Kinds as unit-kinds
@@ -98,7 +98,7 @@ check_says κs a x e p = p
 pub check_by_year_says : Says check-by-year-kinds.ps check-by-year-kinds.r check-by-year.Post (λ κs a x e. Checks a.1.0 a.0.now x)
 check_by_year_says κs a x e p = p
 
--- `head-of`
+-- `head_of`
 abbrev pub Heads : ℕ → List ℕ → Headed → Type 0
 Heads y s r = r ≡ headed_of (reading y s)
 
@@ -213,7 +213,7 @@ pub build_by_year_says : Says build-by-year-kinds.ps build-by-year-kinds.r build
     (λ κs a x e. Gives (index_of a.1.0 a.0.now) a.1.1.0.now e.1.1.0.now x)
 build_by_year_says κs a x e p = p
 
-pub index_read_says : Says index-read-kinds.ps index-read-kinds.r index_read.Post
+pub index_read_says : Says index-read-kinds.ps index-read-kinds.r index-read.Post
     (λ κs a x e. Gives (entry_rows a.0.now) a.1.0.now e.1.0.now x)
 index_read_says κs a x e p = p
 

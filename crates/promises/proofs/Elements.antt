@@ -4,7 +4,7 @@ use Prim.Native.Nat.{ℕ, zero, suc, ◌^◌, ◌<◌}
 use Rattle.layout.specs.Answers.Calls.{reading}
 use Rattle.layout.specs.Answers.Coordinates.{planar_stored, height_stored, fitting, element_in, element_of, measured, measured_by, measure_of}
 use Rattle.layout.specs.Bytes.{All, Bytes, FitAll, repeat}
-use Rattle.layout.specs.Layout.Fine.{FinePart, FineSubobject, FineRecord, Fine}
+use Rattle.layout.specs.Layout.Fine.{FinePart, FineSubobject, FineRecord}
 use Rattle.layout.specs.Shared.Reference.{element_size, floating, three_dimensions}
 use Rattle.layout.specs.Shared.Row.{reference_number}
 use Rattle.layout.specs.Shared.Widths.{planar, height, element_widths}

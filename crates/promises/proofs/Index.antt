@@ -15,7 +15,7 @@ use native.Mathlib.Omega.{arith}
 use Rattle.index.proofs.Laws.Each.{all_rows}
 use Rattle.index.proofs.Laws.Told.{by_refusal as indexed-refusal}
 use Rattle.layout.specs.Answers.Calls.{and_then, reading, in_room, roomed, over, lent}
-use Rattle.layout.specs.Answers.Enums.{refusal, checked_of, index_sizes, indexed_of, written_of}
+use Rattle.layout.specs.Answers.Enums.{refusal, index_sizes, indexed_of, written_of}
 use Rattle.layout.specs.Answers.Lent.{the_given}
 use Rattle.layout.specs.Bytes.{Bytes}
 use Rattle.layout.specs.Fields.Block
@@ -31,7 +31,6 @@ use Rattle.layout.specs.Years.{is_setting}
 use Rattle.layout.specs.declared.BlockKind.{BlockKind}
 use Rattle.layout.specs.declared.BlockKind.TheVariants.{Old, New}
 use Rattle.layout.specs.declared.Checked.TheVariants as Check
-use Rattle.layout.specs.declared.Checked.{Checked}
 use Rattle.layout.specs.declared.Entry.{Entry}
 use Rattle.layout.specs.declared.IndexSizes.{IndexSizes}
 use Rattle.layout.specs.declared.Indexed.TheVariants as Index

@@ -13,6 +13,8 @@
 //
 // Promised, as functions that ask nothing: what the types of lent slices say (`lent`), that acceptance is keeping the layout (`kept`), both
 // round trips (`round`), how a cleared sheet reads (`tails`), what an index is and selects (`picks`), and what a hop finds (`hops`).
+#![tactic(auto)]
+
 pub mod hops;
 pub mod kept;
 pub mod lent;

@@ -2,8 +2,8 @@
 -- lent slices. The contracts are those of src/ as the check reads them, so that a contract that says less is refused here.
 use Rattle.reading.proofs.records.record_at.Kinds as record-at-kinds
 use Rattle.reading.proofs.records.record_at.Reads as record-at
-use Rattle.reading.proofs.heads.head-of.Kinds as head-of-kinds
-use Rattle.reading.proofs.heads.head-of.Reads as head-of
+use Rattle.reading.proofs.heads.head_of.Kinds as head-of-kinds
+use Rattle.reading.proofs.heads.head_of.Reads as head-of
 use Rattle.reading.proofs.heads.unit_of.Kinds as unit-of-kinds
 use Rattle.reading.proofs.heads.unit_of.Reads as unit-of
 use Rattle.reading.proofs.heads.corners_of.Kinds as corners-of-kinds

@@ -6,6 +6,8 @@
 // Promised: each public function takes every value of its parameters (none has a `requires`), and its contract is an equation with a
 // definition of `layout` that settles every number and byte handed back, refusals too (proofs/Once.antt). The modules of `meanings`, which
 // says what their contracts are, are handed on here, so that a user has the whole reader under one name.
+#![tactic(auto)]
+
 pub mod heads;
 pub mod records;
 pub mod sheets;

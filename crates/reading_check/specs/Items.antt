@@ -1,5 +1,5 @@
 -- An item in two halves: what its head says, and its value.
-use Rattle.std.specs.Prelude.{Bool, List, [], ◌∷◌, ◌≡◌, ℕ, ◌+◌, ◌-◌, ◌≤◌, leb, length}
+use Rattle.std.specs.Prelude.{List, [], ◌∷◌, ◌≡◌, ℕ, ◌-◌, ◌≤◌, leb, length}
 use Rattle.reading_check.specs.declared.items.Shape.{Shape}
 use Rattle.layout.specs.Bytes.{number_in}
 use Rattle.layout.specs.Fields.Item as Field
@@ -7,7 +7,7 @@ use Rattle.layout.specs.Reading.Items.{kind_in, value_at, value_size, item_size,
 use Rattle.layout.specs.Refusals.{LENGTH, SEMANTIC, TEXT}
 use Rattle.layout.specs.Shared.Types.{Kind, is_known, is_long, good_scale, value_length, good_length, closing, is_closed}
 use Rattle.layout.specs.Sheet.{Item}
-use Rattle.layout.specs.Walk.{Walk, Check, must, dated, checks, ◌>>◌, ends, Reader, piece}
+use Rattle.layout.specs.Walk.{Check, must, dated, checks, ◌>>◌, ends, Reader, piece}
 use Rattle.layout.specs.Years.{since, type_128}
 
 -- what follows from the type and the scale byte; the size of a long value stands before it, and is 0 here

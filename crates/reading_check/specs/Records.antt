@@ -2,7 +2,7 @@
 use Rattle.std.specs.Prelude.{Bool, cond, List, ◌++◌, ◌≡◌, ℕ, ◌+◌, ◌≤◌, length}
 use Rattle.reading_check.specs.Tally.{tally_of, shown, plus}
 use Rattle.reading_check.specs.declared.tally.Counted.{Counted}
-use Rattle.reading_check.specs.declared.tally.Counted.TheVariants.{Fine, Refused}
+use Rattle.reading_check.specs.declared.tally.Counted.TheVariants.{Refused}
 use Rattle.reading_check.specs.declared.tally.Tally.{Tally}
 use Rattle.layout.specs.Answers.Enums.{refusal}
 use Rattle.layout.specs.Bytes.{some, agree}

@@ -1,5 +1,5 @@
 -- What is counted of a piece: the bytes it took, and how much it adds to each of the three lists of the table.
-use Rattle.std.specs.Prelude.{List, [], ◌≡◌, ℕ, ◌+◌, ◌≤◌, ◌<◌, ◌^◌, length}
+use Rattle.std.specs.Prelude.{List, [], ℕ, ◌+◌, ◌≤◌, ◌<◌, ◌^◌, length}
 use Rattle.reading_check.specs.declared.tally.Counted.{Counted}
 use Rattle.reading_check.specs.declared.tally.Counted.TheVariants.{Fine, Refused}
 use Rattle.reading_check.specs.declared.tally.Tally.{Tally}

@@ -19,7 +19,7 @@ use layout::{Refusal, item, row, years};
 
 // What follows from an item's type and scale byte: where its value starts, how long it is unless that stands before it, and how many
 // closing zeros it has.
-#[derive(Drop)]
+#[derive(Clone, Copy)]
 pub struct Shape {
     pub known: bool,
     pub long: bool,

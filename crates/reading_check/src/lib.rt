@@ -4,6 +4,8 @@
 // Relied on: the definitions of `layout`, the laws of `laws`, the leaf code of `fields`, and the checks on the head (`reading_head`).
 // Promised: `sheets::check` answers what the definitions say, for any slice of bytes. What has a `requires` here is called by the library's
 // own crates only, after they have seen that it holds.
+#![tactic(auto)]
+
 pub mod headers;
 pub mod items;
 pub mod parts;

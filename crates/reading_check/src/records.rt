@@ -41,6 +41,7 @@ fn semantics(xs: &[u8], p: usize, flag: bool, front: Tally, year: u32) -> Counte
 }
 
 // Checks metric and semantics of a record whose header h was let through.
+#[tactic(auto, unfolding(fields::specs::Headers::header_of))]
 fn rest(xs: &[u8], p: usize, h: Header, year: u32) -> Counted
     requires { (p + length xs.now < 2 ^ 32) × Passed xs.now (header_of h) }
     ensures means { result ≡ shown (tally flatten_record) year (rest_walk p xs.now) }
@@ -124,7 +125,7 @@ pub fn records(xs: &[u8], p: usize, n: u32, year: u32) -> Counted
     Counted::Fine(acc)
 }
 
-#[derive(Drop)]
+#[derive(Clone, Copy)]
 pub struct Walked {
     pub counted: Counted,
     pub sum: u64,

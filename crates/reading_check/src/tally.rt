@@ -5,7 +5,7 @@ ghost use Rattle.reading_check.specs.Tally.{add, Small};
 use layout::Refusal;
 
 // How many bytes of the sheet were used, and how many numbers, elements and bytes they give.
-#[derive(Drop)]
+#[derive(Clone, Copy)]
 pub struct Tally {
     pub used: usize,
     pub numbers: usize,
@@ -13,7 +13,7 @@ pub struct Tally {
     pub bytes: usize,
 }
 
-#[derive(Drop)]
+#[derive(Clone, Copy)]
 pub enum Counted {
     Fine(Tally),
     Refused(Refusal),

@@ -3,6 +3,8 @@
 //
 // Relied on: the definitions of `layout`, the laws of `laws`, the leaf code of `fields`. Nothing is checked here: each `requires` is
 // what an accepted sheet keeps. Each contract says that the slices hold what the flattened pieces are, and else what they held.
+#![tactic(auto)]
+
 pub mod cursors;
 pub mod items;
 pub mod parts;

@@ -21,7 +21,7 @@ fn text_in(s: &[u8], p: usize, n: usize) -> TextAt
     requires { p + n ≤ length s.now }
     ensures { result ≡ text_at (take n (drop p s.now)) }
 {
-    texts::text_at_lem(numbers::part(s, p, n))
+    texts::text_at(numbers::part(s, p, n))
 }
 
 // The lengths of the four texts, the scale, and which text fields are clean.

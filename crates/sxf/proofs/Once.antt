@@ -13,7 +13,7 @@ use Rattle.sxf.proofs.heads.sxf_head_of.Reads as head-of
 use Rattle.sxf.proofs.heads.sxf_unit_of.Kinds as unit-of-kinds
 use Rattle.sxf.proofs.heads.sxf_unit_of.Reads as unit-of
 use Rattle.sxf.proofs.values.sxf_value_of.Kinds as value-of-kinds
-use Rattle.sxf.proofs.values.sxf_value_of.Reads as value_of_lem
+use Rattle.sxf.proofs.values.sxf_value_of.Reads as value-of
 use Rattle.sxf.proofs.values.sxf_visibility_of.Kinds as visibility-of-kinds
 use Rattle.sxf.proofs.values.sxf_visibility_of.Reads as visibility-of
 use Rattle.sxf.proofs.version.sxf_version.Kinds as version-kinds
@@ -27,7 +27,7 @@ use Rattle.sxf.proofs.indexes.sxf_index_build.Reads as index-build
 use Rattle.sxf.proofs.indexes.sxf_index_check.Kinds as index-check-kinds
 use Rattle.sxf.proofs.indexes.sxf_index_check.Reads as index-check
 use Rattle.sxf.proofs.indexes.sxf_index_read.Kinds as index-read-kinds
-use Rattle.sxf.proofs.indexes.sxf_index_read.Reads as index_read
+use Rattle.sxf.proofs.indexes.sxf_index_read.Reads as index-read
 use Rattle.sxf.proofs.indexes.sxf_index_select.Kinds as index-select-kinds
 use Rattle.sxf.proofs.indexes.sxf_index_select.Reads as index-select
 use Rattle.sxf.proofs.indexes.sxf_select.Kinds as select-kinds
@@ -82,7 +82,7 @@ once_sxf_corners-of κs a x y e f p q = p ∙ sym q
 pub once_sxf_visibility-of : Once visibility-of-kinds.ps visibility-of-kinds.r visibility-of.Post
 once_sxf_visibility-of κs a x y e f p q = p ∙ sym q
 
-pub once_sxf_value-of : Once value-of-kinds.ps value-of-kinds.r value_of_lem.Post
+pub once_sxf_value-of : Once value-of-kinds.ps value-of-kinds.r value-of.Post
 once_sxf_value-of κs a x y e f p q = p ∙ sym q
 
 pub once_sxf_coordinate_of : Once coordinate-of-kinds.ps coordinate-of-kinds.r coordinate-of.Post
@@ -108,7 +108,7 @@ once_sxf_index_check κs a x y e f p q = p ∙ sym q
 
 pub once_sxf_index_read : (κs : Lfts 2) (a : Dens κs index-read-kinds.ps) (x y : (res_t index-read-kinds.r κs).Denot)
     (e f : AtExit (ended_of 2 index-read-kinds.ps index-read-kinds.r) κs)
-    → index_read.Post κs a x e → index_read.Post κs a y f → (x ≡ y) × (e.1.0.now ≡ f.1.0.now)
+    → index-read.Post κs a x e → index-read.Post κs a y f → (x ≡ y) × (e.1.0.now ≡ f.1.0.now)
 once_sxf_index_read κs a x y e f p q = (p.0 ∙ sym q.0, p.1 ∙ sym q.1)
 
 pub once_sxf_index_select : (κs : Lfts 2) (a : Dens κs index-select-kinds.ps) (x y : (res_t index-select-kinds.r κs).Denot)

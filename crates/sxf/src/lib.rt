@@ -4,6 +4,8 @@
 // Relied on: these five, and that the caller lends what its declaration says (a slice is a pointer and a length, a `&mut` one is lent to
 // this call alone). Promised: the contracts of the calls below, with the year as a number and `number` 0 for success; no call has a
 // `requires`, and two results that meet a contract are equal (proofs/Once.antt).
+#![tactic(auto)]
+
 pub mod coordinates;
 mod flags;
 pub mod heads;

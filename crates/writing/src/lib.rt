@@ -5,6 +5,8 @@
 //
 // Promised: each of the two calls, for a setting and for a year, takes every value of its parameters (none has a `requires`), and its
 // contract is two equations with `layout`'s writer, which settle the answer and every byte of the lent slice, refusals too (proofs/Once.antt).
+#![tactic(auto)]
+
 pub mod sheets;
 
 pub use meanings::setting;

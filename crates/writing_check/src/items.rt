@@ -23,7 +23,7 @@ use layout::refusals::{SEMANTIC, TABLE, TEXT};
 use layout::{bounds, item, row, years};
 
 // The four numbers of an item's row; t is its type.
-#[derive(Drop)]
+#[derive(Clone, Copy)]
 pub struct ItemNumbers {
     pub code: u64,
     pub t: u64,

@@ -3,6 +3,8 @@
 //
 // Relied on: the definitions of `layout`, the laws of `laws`, and the leaf code of `fields`. Promised: `tables::check` answers what
 // the definitions say, for any three slices. What has a `requires` here is called by this crate only, after it has seen that it holds.
+#![tactic(auto)]
+
 pub mod elements;
 pub mod items;
 pub mod parts;

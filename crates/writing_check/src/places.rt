@@ -7,7 +7,7 @@ use layout::{Refusal, sheet};
 
 // The index of the next number, the places in the two pools, and how many bytes the records have so far: at most one more than the
 // limit, so that no sum of lengths wraps.
-#[derive(Drop)]
+#[derive(Clone, Copy)]
 pub struct Places {
     pub number: usize,
     pub element: usize,
@@ -15,7 +15,7 @@ pub struct Places {
     pub length: usize,
 }
 
-#[derive(Drop)]
+#[derive(Clone, Copy)]
 pub enum Moved {
     Fine(Places),
     Refused(Refusal),

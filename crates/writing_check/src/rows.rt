@@ -20,7 +20,7 @@ use layout::refusals::TABLE;
 use layout::{Refusal, bounds, header, row, years};
 
 // A row's nine numbers.
-#[derive(Drop)]
+#[derive(Clone, Copy)]
 pub struct Row {
     pub code: u64,
     pub in_group: u64,

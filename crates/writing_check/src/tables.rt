@@ -11,13 +11,13 @@ use layout::Refusal;
 use layout::refusals::TABLE;
 
 // How many bytes the records have together, at most one more than the limit; and how many records there are.
-#[derive(Drop)]
+#[derive(Clone, Copy)]
 pub struct Totals {
     pub length: usize,
     pub records: usize,
 }
 
-#[derive(Drop)]
+#[derive(Clone, Copy)]
 pub enum Rows {
     Fine(Totals),
     Refused(Refusal),

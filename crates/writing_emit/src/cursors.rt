@@ -1,5 +1,5 @@
 // Where an emitter reads in the three lists of a table, and where it writes.
-#[derive(Drop)]
+#[derive(Clone, Copy)]
 pub struct Cursor {
     pub number: usize,
     pub element: usize,

@@ -4,6 +4,8 @@
 // Relied on: the definitions of `layout`, the laws of `laws`, the leaf code of `fields`. Nothing is checked here: each
 // `requires` is what an accepted table keeps. Each contract says that the encoded pieces stand at their place, and that nothing else is
 // changed.
+#![tactic(auto)]
+
 pub mod cursors;
 pub mod headers;
 pub mod items;

@@ -2,5 +2,7 @@
 //
 // Relied on: the definitions of `layout`, the laws of `laws`, the leaf code of `fields`. Promised: the rules are those of the definition, in
 // its order, and the 452 bytes are those of the layout.
+#![tactic(auto)]
+
 pub mod check;
 pub mod emit;

@@ -1,5 +1,5 @@
 -- The blocks that are written, piece by piece.
-use mathlib.Core.List.{List, [], ◌∷◌, ◌++◌, append_assoc, append-nil}
+use mathlib.Core.List.{List, [], ◌∷◌, ◌++◌, append_assoc}
 use mathlib.Core.Path.{◌≡◌, refl, ap, sym, ◌∙◌}
 use Prim.Native.Nat.{ℕ, zero, suc, ◌+◌, ◌-◌, ◌*◌, ◌%◌, ◌^◌, ◌≤◌, ◌<◌}
 use lib.ListN.{length, take, drop, replicate, length-append, length-replicate, length-take}
@@ -11,11 +11,10 @@ use Rattle.fields.proofs.Laws.Low.{bytes_low}
 use Rattle.index.proofs.Laws.Hopped.{hopped-length, hopped_split}
 use Rattle.index.proofs.Laws.Writing.{Writing, fits, turn, done, two}
 use Rattle.index.specs.Hopped.{hopped, place_after}
-use Rattle.layout.specs.Bytes.{bytes, flat, stored, total}
+use Rattle.layout.specs.Bytes.{bytes, flat, total}
 use Rattle.layout.specs.Index.Blocks.{encode_entry, encode_unsummed, encode_block, encode_blocks, encode_index, begun}
 use Rattle.layout.specs.declared.BlockKind.TheVariants.{New}
 use Rattle.layout.specs.declared.Entry.{Entry}
-use Rattle.laws.proofs.Base.Numbers.{length-bytes}
 use Rattle.laws.proofs.Index.Blocks.{unsummed_length, block-length}
 use Rattle.laws.proofs.Index.Entries.{entry_length, entries-length}
 

@@ -1,15 +1,15 @@
 -- The loop over the blocks of an index: the entries so far, and what is left.
 use mathlib.Core.Bool.{Bool, true, false}
-use mathlib.Core.List.{List, [], ◌∷◌, ◌++◌, append_assoc, append-nil}
+use mathlib.Core.List.{List, [], ◌++◌, append_assoc, append-nil}
 use mathlib.Core.Path.{◌≡◌, refl, ap, sym, ◌∙◌}
-use Prim.Native.Nat.{ℕ, zero, suc, ◌+◌, ◌-◌, ◌*◌, ◌≤◌, ◌<◌}
-use lib.ListN.{length, drop, length-append}
+use Prim.Native.Nat.{ℕ, suc, ◌+◌, ◌-◌, ◌*◌, ◌≤◌, ◌<◌}
+use lib.ListN.{length, drop, length-append, length-drop}
 use lib.Seq.{drop-drop}
 use native.Mathlib.Numerals.{add-one}
 use native.Mathlib.Omega.{arith}
 use Rattle.layout.specs.Answers.Calls.{and_then}
 use Rattle.layout.specs.Answers.Enums.{refusal, indexed_of}
-use Rattle.layout.specs.Bytes.{Bytes}
+use Rattle.layout.specs.Bytes.{Bytes, number}
 use Rattle.layout.specs.Fields.Block
 use Rattle.layout.specs.Index.Blocks.{begun}
 use Rattle.layout.specs.Index.Reading.{count_in, block_entries, good_block, block_in, blocks_in, file_kind, entries_in}
@@ -24,6 +24,17 @@ use Rattle.laws.proofs.Index.Files.{index_sound, index_length}
 
 pub good_facts : (kind : BlockKind) (k : ℕ) (ys : List ℕ) → true ≡ good_block kind k ys → (512 ≤ length ys) × (count_in ys ≤ 63)
 good_facts kind k ys b = let g = good_back kind k ys (sym b) in (g.enough, omega (arith, g.counted.most, full-some kind))
+
+-- of a block at a place that was found good
+module _ (kind : BlockKind) (k at : ℕ) (xs : List ℕ) (b : Bool) (judged : b ≡ good_block kind k (drop at xs)) (good : b ≡ true) where
+  pub good_within : at + 512 ≤ length xs
+  good_within = let f = good_facts kind k (drop at xs) (sym good ∙ judged) in omega (arith, f.0, length-drop at xs)
+
+  pub good_few : (count : ℕ) → count ≡ number 2 (drop (at + 2) xs) → count ≤ 63
+  good_few count e =
+      let f = good_facts kind k (drop at xs) (sym good ∙ judged) in
+      let is : count ≡ count_in (drop at xs) = e ∙ sym (ap (number 2) (drop-drop 2 at xs)) in
+      omega (arith, f.1, is)
 
 -- entries put before others
 then-more : (a b : List Entry) (w : Answer (List Entry))

@@ -1,10 +1,9 @@
 -- The entries of an accepted sheet's records, from header to header, are those of its reading.
 use mathlib.Core.List.{List, [], ◌∷◌, ◌++◌}
 use mathlib.Core.Path.{◌≡◌, refl, ap, sym, ◌∙◌, subst}
-use Prim.Native.Nat.{ℕ, zero, suc, ◌+◌, ◌-◌, ◌*◌, ◌%◌, ◌^◌, ◌≤◌, ◌<◌}
-use lib.ListN.{length, drop, length-append}
+use Prim.Native.Nat.{ℕ, zero, suc, ◌+◌, ◌-◌, ◌≤◌, ◌<◌}
+use lib.ListN.{length, drop}
 use lib.Seq.{drop-drop, drop-append_seam}
-use native.Mathlib.Numerals.{add-one}
 use native.Mathlib.Omega.{arith}
 use Rattle.index.specs.Hopped.{entry_of, hopped, place_after}
 use Rattle.layout.specs.Answers.Calls.{reading}
@@ -15,7 +14,7 @@ use Rattle.layout.specs.Index.Blocks.{begun}
 use Rattle.layout.specs.Index.Selecting.{entries_of}
 use Rattle.layout.specs.Layout.Encode.{encode_record}
 use Rattle.layout.specs.Layout.Fine.{FineRecord}
-use Rattle.layout.specs.Reading.Records.{Header, header_in}
+use Rattle.layout.specs.Reading.Records.{Header}
 use Rattle.layout.specs.Reading.Sheets.{start}
 use Rattle.layout.specs.Shared.Reference.{localisation}
 use Rattle.layout.specs.Sheet.{Record, Sheet}

@@ -10,12 +10,12 @@ use Rattle.layout.specs.Shared.Mark.{has_mark}
 use Rattle.layout.specs.Shared.Reference.{reference_checks}
 use Rattle.layout.specs.Sheet.{Record, Sheet}
 use Rattle.layout.specs.Walk.{years_of}
-use Rattle.layout.specs.Years.{since, mark-65535}
+use Rattle.layout.specs.Years.{since, mark_65535}
 use Rattle.laws.proofs.Base.Walks.{Allowed, allowed-three}
 
 -- the year of the mark, where there is one
 abbrev pub mark_years : Bool → List ℕ
-mark_years marked = cond marked (since mark-65535 ∷ []) []
+mark_years marked = cond marked (since mark_65535 ∷ []) []
 
 pub record_uses : (al : ℕ → Bool) (r : Record)
     → Allowed al (record_years r)

@@ -18,6 +18,7 @@ use Rattle.layout.specs.Reading.Records.{record_walk}
 use Rattle.layout.specs.Reading.Sheets.{start, sum_of, size_checks, passport_checks, descriptor_checks, reserved_checks, head_in, tails_in, sheet_walk}
 use Rattle.layout.specs.Refusals.{LEFT_OVER}
 use Rattle.layout.specs.Shared.Carried.{rest_checks, carried_checks}
+use Rattle.layout.specs.Shared.Texts.{tail_of}
 use Rattle.layout.specs.Sheet.{Head, Tails, Sheet, Record}
 use Rattle.layout.specs.Walk.{Walk, answer, given, Holds, years_of, times, whole}
 use Rattle.laws.proofs.Base.Lists.{◌&◌, all_drop}
@@ -61,6 +62,17 @@ encode-is t = with-is t (sheet_sum t)
 four_zeros : (l : List ℕ) → length l ≡ 4 → zeros l ≡ true → replicate 4 0 ≡ l
 four_zeros l h e = sym (zeros_back l e ∙ ap (λ n. replicate n 0) h)
 
+-- each tail is that of its own field
+tail_stands : (s : List ℕ)
+    → ((tails_in s).date ≡ tail_of (bytes_in Passport.date s)) × ((tails_in s).designation ≡ tail_of (bytes_in Passport.designation s))
+    × ((tails_in s).title ≡ tail_of (bytes_in Passport.title s)) × ((tails_in s).designation2 ≡ tail_of (bytes_in Descriptor.designation s))
+tail_stands s = (refl, refl, refl, refl)
+
+tails_stand : (s : List ℕ) → tails_in s ≡ (named (row_in columns s)).tails
+tails_stand s =
+    let e = tail_stands s in
+    λ j. record { date = e.0 j; designation = e.1 j; title = e.2 j; designation2 = e.3 j }
+
 -- the sheet that stands in s, with the records l
 abbrev pub sheet_in : List ℕ → List Record → Sheet
 sheet_in s l = record { head = head_in s; tails = tails_in s; records = l }
@@ -90,9 +102,10 @@ sheet-fine s l bs c1 c2 c3 c4 c5 c6 count fine is =
     let reserved : replicate 4 0 ≡ bytes_in Descriptor.reserved s = four_zeros (bytes_in Descriptor.reserved s) w.1.1.1.0.0 c6.0 in
     let h : Head = head_in s in
     let a : Tails = tails_in s in
+    let e = tail_stands s in
     let same : row_of h a n (length l) ≡ row_in columns s =
-    λ j. (identifier j & own_length j & edition j & n & (h.date, a.date) & (h.designation, a.designation) & h.scale & (h.title, a.title) & h.rest
-    & identifier2 j & own_length2 j & (h.designation2, a.designation2) & count j & h.carried & reserved j & tt) in
+    λ j. (identifier j & own_length j & edition j & n & (h.date, e.0 j) & (h.designation, e.1 j) & h.scale & (h.title, e.2 j) & h.rest
+    & identifier2 j & own_length2 j & (h.designation2, e.3 j) & count j & h.carried & reserved j & tt) in
     let written : encode_with t n ≡ s = with-is t n ∙ ap₂ (λ a b. put_row columns a ++ b) same is ∙ row.1 in
     let sum : sheet_sum t ≡ n = sym (sum-with t n) ∙ ap sum_of written ∙ sym (eqb-true _ _ c2.1.1.1.0) in
     let all : encode t ≡ s = ap (λ k. encode_with t k) sum ∙ written in (
@@ -203,6 +216,7 @@ sheet-complete al t f y =
     (subst (λ u. Allowed al (years_of (carried_checks u))) (sym carried) ya.1)
     ∙ checks_on al 0 (reserved_checks s) _ (ap zeros reserved, tt) tt
     ∙ bind_on al (walk (number_in Descriptor.count s) (drop start s)) _ t.records read
+    ∙ ap (λ a. given (record { head = head_in s; tails = a; records = t.records })) (tails_stand s)
     ∙ ap (λ u. given (record { head = (named u).head; tails = (named u).tails; records = t.records })) row
 
 pub sheet_law : Law sheet_walk encode Fine years

@@ -11,7 +11,7 @@ use Rattle.layout.specs.Shared.Mark.{is_mark, mark_of, first_count}
 use Rattle.layout.specs.Shared.Reference.{reference_checks, semantics}
 use Rattle.layout.specs.Sheet.{Item, Part, Reference, Record}
 use Rattle.layout.specs.Walk.{Walk, Check, must, dated, checks, ◌>>=◌, ◌>>◌, ends, Reader, piece, Pair, fill}
-use Rattle.layout.specs.Years.{since, mark-65535}
+use Rattle.layout.specs.Years.{since, mark_65535}
 
 -- what stands in the header of a record
 pub record Header : Type 0 where
@@ -63,7 +63,7 @@ length_checks left h = total_checks left h ++ (must (leb h.metric (h.total - Fie
 -- points: "The mark's year stays 2004" (02, request 2), at +30; "under the mark any count in the word is good"
 unfoldable pub mark_checks : Header → List Check
 mark_checks h =
-    dated (is_mark h.points) (since mark-65535) (Field.points).place ∷ []
+    dated (is_mark h.points) (since mark_65535) (Field.points).place ∷ []
 
 -- all checks on a header
 unfoldable pub header_walk : ℕ → ℕ → Header → Walk (Unit {0})

@@ -5,7 +5,7 @@ use Rattle.layout.specs.Fields.Descriptor
 use Rattle.layout.specs.Fields.Passport
 use Rattle.layout.specs.Refusals.{RESERVED}
 use Rattle.layout.specs.Walk.{Check, must, dated, checks, ends, stops, meets}
-use Rattle.layout.specs.Years.{since, accuracy_set, special-sorting, epsg-set, north-offset, east-offset, automatic_guid, edit-date}
+use Rattle.layout.specs.Years.{since, accuracy_set, special_sorting, epsg_set, north_offset, east_offset, automatic_guid, edit_date}
 
 -- +96 and 444: "bits 0-1 must be 3", "bits 3-4 are 0 or 3", "bits 5-6 zero"; bit 7 is free
 abbrev pub state : ℕ → Bool
@@ -32,12 +32,12 @@ rest_checks r =
     ∷ dated (not (eqb (there Passport.accuracy) 0)) (since accuracy_set) (Passport.accuracy).place
     -- "+99 bit 0 special sorting, bits 1-7 zero"
     ∷ allowed (eqb (bits 1 7 (there Passport.sorting)) 0) Passport.sorting
-    ∷ dated (bit 0 (there Passport.sorting)) (since special-sorting) (Passport.sorting).place
+    ∷ dated (bit 0 (there Passport.sorting)) (since special_sorting) (Passport.sorting).place
     -- "EPSG not 0"
-    ∷ dated (not (eqb (there Passport.epsg) 0)) (since epsg-set) (Passport.epsg).place
+    ∷ dated (not (eqb (there Passport.epsg) 0)) (since epsg_set) (Passport.epsg).place
     -- "offsets at +384 and +392 (any non-zero byte)"
-    ∷ dated (anyByte Passport.north) (since north-offset) (Passport.north).place
-    ∷ dated (anyByte Passport.east) (since east-offset) (Passport.east).place
+    ∷ dated (anyByte Passport.north) (since north_offset) (Passport.north).place
+    ∷ dated (anyByte Passport.east) (since east_offset) (Passport.east).place
     ∷ []
 
 -- the descriptor's four bytes at 444, c
@@ -52,7 +52,7 @@ carried_checks c =
     -- "447 bit 0 automatic GUID, bit 1 edit date, bits 2-7 zero"
     ∷ allowed (eqb (bits 2 7 (there Descriptor.keeping)) 0) Descriptor.keeping
     ∷ dated (bit 0 (there Descriptor.keeping)) (since automatic_guid) (Descriptor.keeping).place
-    ∷ dated (bit 1 (there Descriptor.keeping)) (since edit-date) (Descriptor.keeping).place
+    ∷ dated (bit 1 (there Descriptor.keeping)) (since edit_date) (Descriptor.keeping).place
     ∷ []
 
 -- the rest with one byte changed, by its place in the sheet

@@ -5,7 +5,7 @@ use Rattle.layout.specs.Bytes.{bits, bit}
 use Rattle.layout.specs.Refusals.{RESERVED, NOT_CARRIED}
 use Rattle.layout.specs.Sheet.{Reference}
 use Rattle.layout.specs.Walk.{Walk, Check, must, dated, checks, ends, stops, meets}
-use Rattle.layout.specs.Years.{since, multipolygon, compressed_graphics, binding-vector, unicode, above-all, below_all, vertical-alignment, spline-bits}
+use Rattle.layout.specs.Years.{since, multipolygon, compressed_graphics, binding_vectors, unicode, above_all, below_all, vertical_alignment, spline_bits}
 
 -- "Byte 20: bits 0-3 localisation 0 to 5; bit 4 multipolygon; bits 5-7 zero."
 abbrev pub localisation : Reference → ℕ
@@ -31,11 +31,11 @@ binding_vector r = bit 3 r.byte21
 unfoldable pub byte21 : ℕ → Reference → List Check
 byte21 place r =
     dated (bit 0 r.byte21) (since compressed_graphics) place
-    ∷ dated (binding_vector r) (since binding-vector) place
+    ∷ dated (binding_vector r) (since binding_vectors) place
     ∷ dated (bit 4 r.byte21) (since unicode) place
-    ∷ dated (bit 5 r.byte21) (since above-all) place
+    ∷ dated (bit 5 r.byte21) (since above_all) place
     ∷ dated (bit 6 r.byte21) (since below_all) place
-    ∷ dated (bit 7 r.byte21) (since vertical-alignment) place
+    ∷ dated (bit 7 r.byte21) (since vertical_alignment) place
     ∷ must (not (binding_vector r)) NOT_CARRIED place
     ∷ []
 
@@ -56,7 +56,7 @@ graphics r = bit 4 r.byte22
 unfoldable pub byte22 : ℕ → Reference → List Check
 byte22 place r =
     must (not (bit 0 r.byte22) && (not (text_in_metric r) || eqb (localisation r) 3 || eqb (localisation r) 5)) RESERVED place
-    ∷ dated (not (eqb (bits 6 7 r.byte22) 0)) (since spline-bits) place
+    ∷ dated (not (eqb (bits 6 7 r.byte22) 0)) (since spline_bits) place
     ∷ must (not (graphics r)) NOT_CARRIED place
     ∷ []
 

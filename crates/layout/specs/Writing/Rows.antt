@@ -11,7 +11,7 @@ use Rattle.layout.specs.Walk.{Walk, Check, must, dated, checks, ◌>>=◌, ◌>>
 use Rattle.layout.specs.Writing.Items.{fits_field, take_item}
 use Rattle.layout.specs.Writing.Parts.{first_rules, later_rules, take_part}
 use Rattle.layout.specs.Writing.Tables.{table, taken, Taker, many}
-use Rattle.layout.specs.Years.{since, mark-65535}
+use Rattle.layout.specs.Years.{since, mark_65535}
 
 -- a row's nine numbers; the reference number is there whole and as its three bytes
 pub record RecordRow : Type 0 where
@@ -57,7 +57,7 @@ name_rules a =
 
 -- "14 for a mark over 1"; "The mark's year stays 2004, and the writer's TOO NEW now stands at the mark's number." (02, request 2)
 abbrev pub mark_rules : ℕ → List Check
-mark_rules mark = must (leb mark 1) TABLE Row.mark ∷ dated (has_mark mark) (since mark-65535) Row.mark ∷ []
+mark_rules mark = must (leb mark 1) TABLE Row.mark ∷ dated (has_mark mark) (since mark_65535) Row.mark ∷ []
 
 -- "TABLE: [..] items not agreeing with the flag, [..] parts 0"; parts are 1 + subobjects, which have two bytes
 unfoldable pub count_rules : RecordRow → List Check

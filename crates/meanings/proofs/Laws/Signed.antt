@@ -44,7 +44,7 @@ module _ (a half : ℕ) (ha : a < 4294967296) (hh : half < 4294967296) where
 
 -- a signed result, as the machine hands it on
 pub whole : {a x : ℤ} → mag a < 2 ^ 63 → a ≡ x → to_z w64 (of_z w64 a) ≡ x
-whole h e = to_z-of_z (record { sfits = h }) ∙ e
+whole h e = to_z-of_z {w = w64} (record { sfits = h }) ∙ e
 
 -- and two in a struct
 pub decimal : {a b x y : ℤ} → mag a < 2 ^ 63 → mag b < 2 ^ 63 → a ≡ x → b ≡ y

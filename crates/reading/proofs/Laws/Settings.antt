@@ -14,7 +14,6 @@ use Rattle.meanings.specs.Settings.{made_of}
 use Rattle.meanings.specs.declared.setting.Made.TheVariants.{At, Refused}
 use Rattle.meanings.specs.declared.setting.Made.{Made}
 use Rattle.meanings.specs.declared.setting.Setting.{Setting}
-use lib.Dec.{eqb}
 use mathlib.Core.Bool.{Bool, true, false, cond}
 use mathlib.Core.List.{List}
 use mathlib.Core.Path.{◌≡◌, refl, sym, ap, ◌∙◌}

@@ -7,7 +7,7 @@ use Rattle.layout.specs.Answers.Calls.{in_rooms, and_then, reading, roomy, unfol
 use Rattle.layout.specs.Answers.Enums.{checked_of, sizes_of, refusal}
 use Rattle.layout.specs.Refusals.{ROOM}
 use Rattle.layout.specs.Sheet.{Sheet, Table}
-use Rattle.layout.specs.Walk.{Answer, given, refused, answer}
+use Rattle.layout.specs.Walk.{Answer, given, refused}
 use Rattle.layout.specs.Writing.Tables.{flatten}
 use Rattle.layout.specs.declared.Checked.TheVariants as Check
 use Rattle.layout.specs.declared.Checked.{Checked}

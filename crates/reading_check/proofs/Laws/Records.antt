@@ -22,7 +22,6 @@ use Rattle.fields.specs.declared.steps.Step.{Step}
 use Rattle.fields.specs.declared.steps.Step.TheVariants as Stp
 use Rattle.layout.specs.Answers.Enums.{refusal}
 use Rattle.layout.specs.Bytes.{some, agree}
-use Rattle.layout.specs.Fields.Header as Field
 use Rattle.layout.specs.Reading.Items.{item_walk}
 use Rattle.layout.specs.Reading.Parts.{metric_walk}
 use Rattle.layout.specs.Reading.Records.{Header, header_in, record_from, metric_in, semantics_in}

@@ -20,13 +20,13 @@ use Rattle.fields.specs.Steps.{Next}
 use Rattle.fields.specs.declared.steps.Step.{Step}
 use Rattle.fields.specs.declared.steps.Step.TheVariants as Stp
 use Rattle.layout.specs.Answers.Enums.{refusal, checked_of}
-use Rattle.layout.specs.Bytes.{Bytes, number, bytes, bytes_in}
+use Rattle.layout.specs.Bytes.{Bytes, number, bytes_in}
 use Rattle.layout.specs.Fields.{limit}
 use Rattle.layout.specs.Fields.Descriptor
 use Rattle.layout.specs.Fields.Passport
 use Rattle.layout.specs.Layout.Encode.{encode_head, encode_with, sheet_sum, encode}
 use Rattle.layout.specs.Reading.Records.{record_walk}
-use Rattle.layout.specs.Reading.Sheets.{size_checks, passport_checks, descriptor_checks, reserved_checks, head_in, sheet_walk}
+use Rattle.layout.specs.Reading.Sheets.{size_checks, passport_checks, descriptor_checks, reserved_checks, sheet_walk}
 use Rattle.layout.specs.Refusals.{LEFT_OVER}
 use Rattle.layout.specs.Shared.Carried.{rest_checks, carried_checks}
 use Rattle.layout.specs.Sheet.{Record, Sheet}

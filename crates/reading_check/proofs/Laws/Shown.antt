@@ -1,12 +1,10 @@
 -- What the code answers of a walk that is made of walks, over the counts alone.
-use mathlib.Core.Bool.{Bool, true, false}
-use mathlib.Core.List.{List, [], ◌∷◌}
+use mathlib.Core.List.{List, ◌∷◌}
 use mathlib.Core.Path.{◌≡◌, refl, sym, ap, ◌∙◌}
-use Prim.Native.Nat.{ℕ, zero, suc, ◌+◌, ◌-◌, ◌≤◌, ◌<◌}
-use lib.ListN.{length, take, drop, length-append}
+use Prim.Native.Nat.{ℕ, zero, suc, ◌+◌}
+use lib.ListN.{drop, length-append}
 use lib.Seq.{drop-drop}
 use native.Mathlib.Nat.{zero-add, suc-add, add_assoc, add-zero}
-use native.Mathlib.Omega.{arith}
 use Rattle.reading_check.specs.Tally.{none, add, tally_of, tally, counted_of, shown}
 pub use Rattle.reading_check.specs.Tally.{next, plus}
 use Rattle.reading_check.specs.declared.tally.Counted.{Counted}

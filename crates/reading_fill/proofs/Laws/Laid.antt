@@ -1,9 +1,8 @@
 -- A whole sheet in pass 2: what its filler asks and has done, and what the slices then hold.
 use mathlib.Core.List.{List, ◌++◌}
-use mathlib.Core.Path.{◌≡◌, refl, ap, ◌∙◌}
-use Prim.Native.Nat.{ℕ, ◌+◌, ◌≤◌}
+use mathlib.Core.Path.{◌≡◌, ap, ◌∙◌}
+use Prim.Native.Nat.{ℕ, ◌≤◌}
 use lib.ListN.{length, drop}
-use lib.Seq.{sets}
 use native.Mathlib.Omega.{arith}
 use Rattle.reading_fill.specs.Cursors.{Room, Wrote}
 use Rattle.reading_fill.specs.Pieces.{times_in, times_size, Each}

@@ -9,7 +9,7 @@ use Rattle.reading_fill.specs.Cursors.{moved, Room, Wrote}
 use Rattle.reading_fill.specs.Pieces.{times_in, times_size, filling_in, filling_size, fill_in, fill_size, Each}
 use Rattle.reading_fill.specs.declared.cursors.Cursor.{Cursor}
 use Rattle.layout.specs.Sheet.{Table}
-use Rattle.layout.specs.Writing.Tables.{table, join, joined}
+use Rattle.layout.specs.Writing.Tables.{join, joined}
 use Rattle.reading_fill.proofs.Laws.Moves.{Left, left-start, left-room, left-room-flat, left_done, left-turn, room-first}
 
 module _ {A : Type 0} (one : List ℕ → A) (size : List ℕ → ℕ) where

@@ -1,9 +1,9 @@
 -- A record in pass 2, over plain variables: what the code asks and what it has done.
-use mathlib.Core.List.{List, [], ◌∷◌, ◌++◌, append_assoc, append-nil}
+use mathlib.Core.List.{List, [], ◌++◌, append_assoc, append-nil}
 use mathlib.Core.Path.{◌≡◌, refl, sym, ap, ap₂, ◌∙◌}
 use Prim.Native.Nat.{ℕ, ◌+◌, ◌-◌, ◌/◌, ◌≤◌}
-use lib.ListN.{length, take, drop, length-append, length-drop}
-use lib.Seq.{sets, drop-drop, length-sets, length-take-le}
+use lib.ListN.{length, take, drop, length-append}
+use lib.Seq.{sets, drop-drop, length-sets}
 use native.Mathlib.Omega.{arith}
 use Rattle.reading_fill.specs.Cursors.{moved, Room, Wrote}
 use Rattle.reading_fill.specs.Parts.{part_in, part_size, subobject_in, subobject_size}

@@ -23,7 +23,7 @@ use Rattle.layout.specs.Refusals.{LENGTH, SHORT, LEFT_OVER}
 use Rattle.layout.specs.Shared.Mark.{is_mark}
 use Rattle.layout.specs.Shared.Reference.{semantics}
 use Rattle.layout.specs.Sheet.{Part, Record, Sheet}
-use Rattle.layout.specs.Walk.{outcome, ends, given, answer, always, must, Piece, piece, Pair, times, whole, fill}
+use Rattle.layout.specs.Walk.{outcome, ends, given, answer, always, must, Piece, piece, Pair, times, fill}
 use Rattle.laws.proofs.Base.Valued.{Valued, whole-value, whole_inner, pair_valued}
 use Rattle.laws.proofs.Base.Walks.{given_inj, bind_case, checks_case, outcome-is}
 use Rattle.laws.proofs.Reading.Sheets.{sheet_went}

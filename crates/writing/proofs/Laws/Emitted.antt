@@ -14,7 +14,7 @@ use Rattle.layout.specs.Layout.Fine.{Fine, FineHead}
 use Rattle.layout.specs.Reading.Sheets.{sum_of}
 use Rattle.layout.specs.Shared.Tails.{AllClean, clean_tails}
 use Rattle.layout.specs.Sheet.{Head, Record, Sheet, Table}
-use Rattle.layout.specs.Writing.Tables.{table, flatten}
+use Rattle.layout.specs.Writing.Tables.{flatten}
 use Rattle.laws.proofs.Called.{table_once}
 use Rattle.laws.proofs.Encoding.Lengths.{head-length, length-encode}
 use Rattle.laws.proofs.Encoding.Sums.{length-with}

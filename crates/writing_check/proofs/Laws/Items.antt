@@ -18,7 +18,7 @@ use Rattle.layout.specs.Layout.Sizes.{item_bytes}
 use Rattle.layout.specs.Layout.Uses.{item_years}
 use Rattle.layout.specs.Shared.Types.{Kind, kind_of, closing, is_closed}
 use Rattle.layout.specs.Sheet.{Item, Table}
-use Rattle.layout.specs.Walk.{Walk, Check, must, answer, up_to, Holds, checks, ◌>>◌, ends}
+use Rattle.layout.specs.Walk.{Walk, must, answer, up_to, Holds, checks, ◌>>◌, ends}
 use Rattle.layout.specs.Writing.Items.{ItemRow, item_row_in, item_rules, take_item}
 use Rattle.layout.specs.Writing.Tables.{table, Taken, taken, flatten_item}
 use Rattle.layout.specs.declared.Refusal.{Refusal}

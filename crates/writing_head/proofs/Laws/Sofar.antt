@@ -1,6 +1,6 @@
 -- Bytes that are written one after another from a place on.
 use mathlib.Core.List.{List, ◌∷◌, ◌++◌, append_assoc}
-use mathlib.Core.Path.{◌≡◌, refl, sym, ap, ◌∙◌}
+use mathlib.Core.Path.{◌≡◌, sym, ap, ◌∙◌}
 use Prim.Native.Nat.{ℕ, ◌+◌, ◌-◌, ◌<◌}
 use lib.ListN.{length, take, drop, length-append, replicate, length-replicate}
 use lib.Seq.{sets, take_all}

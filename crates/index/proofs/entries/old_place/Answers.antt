@@ -1,0 +1,7 @@
+-- Two bytes, and the third (`old-place-read`).
+use Rattle.index.proofs.Laws.Places.{old-place-read}
+use Rattle.index.proofs.entries.old_place.Goals as goal
+
+pub returns : goal.returns
+returns c =
+    old-place-read c.args.index.now c.args.p _ _ c.u16_at-low.ensures c.u8_at-high.ensures

@@ -1,0 +1,5 @@
+-- This is the call by year at the year of the setting, so its equation is rewritten by what `year` gives.
+use Rattle.reading.proofs.records.record_at.Goals as goal
+
+pub returns : goal.returns
+returns c = rw c.year.ensures at c.record_by_year.ensures

@@ -1,0 +1,52 @@
+-- Three ways out, each a law: too short for a head (`item-short`), refused by the checks on it (`item-stop`), or what its value answers (`item_on`).
+use mathlib.Core.Path.{◌≡◌, ◌∙◌}
+use native.Mathlib.Omega.{arith}
+use lib.ListN.{drop}
+use Rattle.reading_check.specs.Items.{shape_of}
+use Rattle.layout.specs.Bytes.{number}
+use Rattle.layout.specs.Reading.Items.{kind_in}
+use Rattle.reading_check.proofs.Laws.Items.{item-short, item_on, item-stop, item_starts}
+use Rattle.reading_check.proofs.items.item.Goals as goal
+
+pub returns-then-xs-lt-SIZE : goal.returns-then-xs-lt-SIZE
+returns-then-xs-lt-SIZE c =
+    record { means = item-short _ _ _ c.if-xs-lt-SIZE.true; within = tt }
+
+pub value-requires : goal.value-requires
+value-requires c =
+    let e : c.shape_of-k.result ≡ shape_of (kind_in c.args.xs.now)
+    (number 1 (drop 3 c.args.xs.now)) = c.shape_of-k.ensures.0 ∙ rw
+    (c.u8_at.ensures, c.u8_at-2.ensures) in (
+      omega arith,
+      record {
+        is = e;
+        low = c.shape_of-k.ensures.1;
+        at = c.shape_of-k.ensures.2;
+        size = c.shape_of-k.ensures.3;
+        closing = c.shape_of-k.ensures.4;
+      },
+      item_starts _ _ c.args.xs.now c.if-xs-lt-SIZE.false _ e c.shape_checks.result
+          c.shape_checks.ensures c.in-Fine.is,
+    )
+
+pub returns-in-Fine : goal.returns-in-Fine
+returns-in-Fine c =
+    let e : c.shape_of-k.result ≡ shape_of (kind_in c.args.xs.now)
+    (number 1 (drop 3 c.args.xs.now)) = c.shape_of-k.ensures.0 ∙ rw
+    (c.u8_at.ensures, c.u8_at-2.ensures) in
+    record {
+      means = item_on _ _ _ c.if-xs-lt-SIZE.false _ e c.shape_checks.result c.shape_checks.ensures
+          c.in-Fine.is _ (c.value.ensures.means _);
+      within = c.value.ensures.within;
+    }
+
+pub returns-in-Refused : goal.returns-in-Refused
+returns-in-Refused c =
+    let e : c.shape_of-k.result ≡ shape_of (kind_in c.args.xs.now)
+    (number 1 (drop 3 c.args.xs.now)) = c.shape_of-k.ensures.0 ∙ rw
+    (c.u8_at.ensures, c.u8_at-2.ensures) in
+    record {
+      means = item-stop _ _ _ c.if-xs-lt-SIZE.false _ e c.shape_checks.result c.shape_checks.ensures _
+          c.in-Refused.is;
+      within = tt;
+    }
