@@ -1,5 +1,5 @@
 -- A float that is equal to itself is a number.
-use Rattle.std.proofs.Common.{◌≡◌, Bool, true, not, T, sym, subst}
+use Rattle.std.proofs.Common.{◌≡◌, true, not, T, sym, subst}
 use lib.Ieee.{Float, eq, is_nan, nan, inf, fin}
 
 by_test : (x : Float) → T (eq x x) → T (not (is_nan x))

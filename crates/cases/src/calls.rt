@@ -7,6 +7,7 @@ use crate::{lists, names, print, reader, values, writer};
 use layout::years;
 use reading::setting::{Made, Setting};
 use reading::units::unit_of;
+use std::io;
 
 // How many numbers a call is asked with. They stand from 513 on. What is no call is asked with no count of numbers.
 fn asked(call: u64) -> u64 {
@@ -34,8 +35,8 @@ fn constant(year: u32) -> Setting {
     }
 }
 
-fn year_of(setting: Setting) {
-    print::number(setting.year() as u64);
+fn year_of(rt: &impl Print, setting: Setting) -> io::Result<()> {
+    print::number(rt, setting.year() as u64)
 }
 
 fn byte(n: u64) -> u8 {
@@ -47,23 +48,26 @@ fn word(n: u64) -> u32 {
 }
 
 // With the list `rest` for the passport's bytes.
-fn coordinate(form: &Form, bytes: &Bytes) {
+fn coordinate(rt: &impl Print, form: &Form, bytes: &Bytes) -> io::Result<()> {
     let rest = writer::rest_of(lists::part(form, bytes, lists::REST));
-    values::coordinate_by(&rest, word(form[513]), form[514], form[515]);
+    values::coordinate_by(rt, &rest, word(form[513]), form[514], form[515])
 }
 
-fn on_numbers(form: &Form, call: u64) {
+fn on_numbers(rt: &impl Print, form: &Form, call: u64) -> io::Result<()> {
     match call {
-        names::CONSTANT => year_of(constant(word(form[513]))),
-        names::VISIBILITY => values::visibility(form[513], form[514]),
-        names::VALUE => values::value(form[513], form[514], form[515]),
-        names::UNITS => reader::unit(unit_of(
-            byte(form[513]),
-            word(form[514]),
-            byte(form[515]),
-            byte(form[516]),
-        )),
-        _ => coordinate(form, &lists::bytes_of(form)),
+        names::CONSTANT => year_of(rt, constant(word(form[513]))),
+        names::VISIBILITY => values::visibility(rt, form[513], form[514]),
+        names::VALUE => values::value(rt, form[513], form[514], form[515]),
+        names::UNITS => reader::unit(
+            rt,
+            unit_of(
+                byte(form[513]),
+                word(form[514]),
+                byte(form[515]),
+                byte(form[516]),
+            ),
+        ),
+        _ => coordinate(rt, form, &lists::bytes_of(form)),
     }
 }
 
@@ -74,42 +78,49 @@ fn room(n: u64, most: usize) -> usize
     if n < most as u64 { n as usize } else { most }
 }
 
-fn on_sheet(form: &Form, bytes: &Bytes, call: u64, setting: Setting) {
+fn on_sheet(
+    rt: &impl Print,
+    form: &Form,
+    bytes: &Bytes,
+    call: u64,
+    setting: Setting,
+) -> io::Result<()> {
     let s = lists::part(form, bytes, lists::SHEET);
     match call {
-        names::CHECK => reader::check(s, setting),
+        names::CHECK => reader::check(rt, s, setting),
         names::UNFOLD => reader::unfold(
+            rt,
             s,
             setting,
             room(form[514], 64),
             room(form[515], 64),
             room(form[516], 64),
         ),
-        names::RECORD => reader::record_at(s, setting, form[514]),
-        names::HEAD => reader::head_of(s, setting),
-        names::UNIT => reader::unit_of(s, setting),
-        names::CORNERS => reader::corners_of(s, setting),
-        names::WRITE => writer::write(form, bytes, setting, room(form[514], 1024)),
-        _ => year_of(setting),
+        names::RECORD => reader::record_at(rt, s, setting, form[514]),
+        names::HEAD => reader::head_of(rt, s, setting),
+        names::UNIT => reader::unit_of(rt, s, setting),
+        names::CORNERS => reader::corners_of(rt, s, setting),
+        names::WRITE => writer::write(rt, form, bytes, setting, room(form[514], 1024)),
+        _ => year_of(rt, setting),
     }
 }
 
-fn at_year(form: &Form, call: u64, year: u32) {
+fn at_year(rt: &impl Print, form: &Form, call: u64, year: u32) -> io::Result<()> {
     match Setting::new(year) {
-        Made::At(setting) => on_sheet(form, &lists::bytes_of(form), call, setting),
-        Made::Refused(r) => print::refused(r),
+        Made::At(setting) => on_sheet(rt, form, &lists::bytes_of(form), call, setting),
+        Made::Refused(r) => print::refused(rt, r),
     }
 }
 
-pub fn run(form: &Form) {
+pub fn run(rt: &impl Print, form: &Form) -> io::Result<()> {
     let call = form[lists::CALL];
     if form[lists::WRONG] == 0 && form[lists::ASK] == asked(call) {
         if call < names::CONSTANT {
-            at_year(form, call, word(form[513]));
+            at_year(rt, form, call, word(form[513]))
         } else {
-            on_numbers(form, call);
+            on_numbers(rt, form, call)
         }
     } else {
-        print::word(b" BAD LINE");
+        print::word(rt, b" BAD LINE")
     }
 }

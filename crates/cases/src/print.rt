@@ -1,73 +1,72 @@
 // Answers as text. Each piece begins with a blank, since the name of the case stands before it.
 use layout::{Checked, Refusal};
+use std::io;
 
 // What lent memory is filled with before a call; it prints as a dot. No case has it for a number or a byte of its answer.
 pub const FILL: u64 = 165;
 
 pub const FILL_BYTE: u8 = 165;
 
-pub fn word(w: &[u8]) {
-    io::write_all(1, w);
+pub fn word(rt: &impl Print, w: &[u8]) -> io::Result<()> {
+    rt.write_all(w)
 }
 
 // Hexadecimal from 2^28 on, where most numbers are the bits of others.
-pub fn number(n: u64) {
+pub fn number(rt: &impl Print, n: u64) -> io::Result<()> {
     if n == FILL {
-        word(b" .");
+        word(rt, b" .")
     } else if n < 0x10000000 {
-        word(b" ");
-        io::print_decimal(1, n);
+        print!(rt; " {n}")
     } else {
-        word(b" 0x");
-        io::print_hex(1, n, 1);
+        print!(rt; " 0x{n:x}")
     }
 }
 
 // The first so many of lent memory.
-pub fn lent(ns: [u64; 64], count: usize) {
-    word(b" |");
+pub fn lent(rt: &impl Print, ns: [u64; 64], count: usize) -> io::Result<()> {
+    word(rt, b" |")?;
     let mut i = 0;
     while i < 64 {
         if i < count {
-            number(ns[i]);
+            number(rt, ns[i])?;
         }
         i += 1;
     }
+    Ok(())
 }
 
 fn wide(b: u8) -> u64 {
     b as u64
 }
 
-pub fn lent_bytes(bs: [u8; 64], count: usize) {
-    word(b" |");
+pub fn lent_bytes(rt: &impl Print, bs: [u8; 64], count: usize) -> io::Result<()> {
+    word(rt, b" |")?;
     let mut i = 0;
     while i < 64 {
         if i < count {
-            number(wide(bs[i]));
+            number(rt, wide(bs[i]))?;
         }
         i += 1;
     }
+    Ok(())
 }
 
-pub fn refused(r: Refusal) {
-    word(b" REFUSED");
-    number(r.number as u64);
-    number(r.place as u64);
-    number(r.year as u64);
+pub fn refused(rt: &impl Print, r: Refusal) -> io::Result<()> {
+    word(rt, b" REFUSED")?;
+    number(rt, r.number as u64)?;
+    number(rt, r.place as u64)?;
+    number(rt, r.year as u64)
 }
 
-pub fn checked(c: Checked) {
+pub fn checked(rt: &impl Print, c: Checked) -> io::Result<()> {
     match c {
         Checked::Accepted(z) => {
-            number(z.sum as u64);
-            number(z.records as u64);
-            number(z.numbers as u64);
-            number(z.elements as u64);
-            number(z.bytes as u64);
+            number(rt, z.sum as u64)?;
+            number(rt, z.records as u64)?;
+            number(rt, z.numbers as u64)?;
+            number(rt, z.elements as u64)?;
+            number(rt, z.bytes as u64)
         }
-        Checked::Refused(r) => {
-            refused(r);
-        }
+        Checked::Refused(r) => refused(rt, r),
     }
 }

@@ -6,15 +6,14 @@ use layout::{Dimension, HeightUnit, Number, SemanticValue, SheetUnit, Visibility
 use reading::coordinates::{Coordinate, CoordinateAnswer, Height, coordinate_of};
 use reading::values::value_of;
 use reading::visibility::visibility_of;
+use std::io;
 
-pub fn visibility(flags: u64, byte: u64) {
+pub fn visibility(rt: &impl Print, flags: u64, byte: u64) -> io::Result<()> {
     match visibility_of((flags % 256) as u8, (byte % 256) as u8) {
-        Visibility::Unset => {
-            print::word(b" unset");
-        }
+        Visibility::Unset => print::word(rt, b" unset"),
         Visibility::Bounds(lower, upper) => {
-            number(lower as u64);
-            number(upper as u64);
+            number(rt, lower as u64)?;
+            number(rt, upper as u64)
         }
     }
 }
@@ -29,42 +28,40 @@ fn whole(x: f64) -> u64 {
 }
 
 // By way of a double, which is exact for the 33 bits that these numbers have.
-fn signed(n: i64) {
+fn signed(rt: &impl Print, n: i64) -> io::Result<()> {
     let x = std::num::nearest_i64_to_f64(n);
     if n < 0 {
-        print::word(b" minus");
-        number(whole(-x));
+        print::word(rt, b" minus")?;
+        number(rt, whole(-x))
     } else {
-        number(whole(x));
+        number(rt, whole(x))
     }
 }
 
-fn double(x: f64) {
-    print::word(b" double");
-    number(double_bits(x));
+fn double(rt: &impl Print, x: f64) -> io::Result<()> {
+    print::word(rt, b" double")?;
+    number(rt, double_bits(x))
 }
 
-fn not_number(bits: u64) {
-    print::word(b" no number");
-    number(bits);
+fn not_number(rt: &impl Print, bits: u64) -> io::Result<()> {
+    print::word(rt, b" no number")?;
+    number(rt, bits)
 }
 
 // A whole number and the power of ten that it is times, a double's bits, or the type of an item that is a text.
-pub fn value(kind: u64, scale: u64, bits: u64) {
+pub fn value(rt: &impl Print, kind: u64, scale: u64, bits: u64) -> io::Result<()> {
     match value_of((kind % 256) as u8, (scale % 256) as u8, bits) {
         SemanticValue::Number(d) => {
-            signed(d.whole);
-            signed(d.power);
+            signed(rt, d.whole)?;
+            signed(rt, d.power)
         }
-        SemanticValue::Double(x) => double(x),
-        SemanticValue::NotNumber(b) => not_number(b),
+        SemanticValue::Double(x) => double(rt, x),
+        SemanticValue::NotNumber(b) => not_number(rt, b),
         SemanticValue::Other(k) => {
-            print::word(b" other");
-            number(k as u64);
+            print::word(rt, b" other")?;
+            number(rt, k as u64)
         }
-        SemanticValue::Refused(r) => {
-            print::refused(r);
-        }
+        SemanticValue::Refused(r) => print::refused(rt, r),
     }
 }
 
@@ -80,47 +77,45 @@ fn single_bits(f: f32) -> u64 {
     }
 }
 
-fn told(n: Number) {
+fn told(rt: &impl Print, n: Number) -> io::Result<()> {
     match n {
-        Number::Whole(w) => {
-            signed(w);
-        }
+        Number::Whole(w) => signed(rt, w),
         Number::Single(f) => {
-            print::word(b" single");
-            number(single_bits(f));
+            print::word(rt, b" single")?;
+            number(rt, single_bits(f))
         }
-        Number::Double(f) => double(f),
-        Number::NotNumber(b) => not_number(b),
+        Number::Double(f) => double(rt, f),
+        Number::NotNumber(b) => not_number(rt, b),
     }
 }
 
-fn coordinate(u: SheetUnit, n: Number) {
-    unit(u);
-    told(n);
+fn coordinate(rt: &impl Print, u: SheetUnit, n: Number) -> io::Result<()> {
+    unit(rt, u)?;
+    told(rt, n)
 }
 
-fn plane(c: Coordinate) {
+fn plane(rt: &impl Print, c: Coordinate) -> io::Result<()> {
     match c {
-        Coordinate::DevicePoints(c) => coordinate(SheetUnit::DevicePoints, c.number()),
-        Coordinate::Metres(c) => coordinate(SheetUnit::Metres, c.number()),
-        Coordinate::Radians(c) => coordinate(SheetUnit::Radians, c.number()),
-        Coordinate::Degrees(c) => coordinate(SheetUnit::Degrees, c.number()),
-        Coordinate::Unknown(c) => coordinate(SheetUnit::Unknown(c.byte()), c.number()),
+        Coordinate::DevicePoints(c) => coordinate(rt, SheetUnit::DevicePoints, c.number()),
+        Coordinate::Metres(c) => coordinate(rt, SheetUnit::Metres, c.number()),
+        Coordinate::Radians(c) => coordinate(rt, SheetUnit::Radians, c.number()),
+        Coordinate::Degrees(c) => coordinate(rt, SheetUnit::Degrees, c.number()),
+        Coordinate::Unknown(c) => coordinate(rt, SheetUnit::Unknown(c.byte()), c.number()),
     }
 }
 
-fn high(h: Height) {
-    print::word(b" height");
+fn high(rt: &impl Print, h: Height) -> io::Result<()> {
+    print::word(rt, b" height")?;
     match h.unit() {
         HeightUnit::Metres => {
-            print::word(b" metres");
+            print::word(rt, b" metres")?;
         }
         HeightUnit::Unknown(b) => {
-            print::word(b" unknown");
-            number(b as u64);
+            print::word(rt, b" unknown")?;
+            number(rt, b as u64)?;
         }
     }
-    told(h.number());
+    told(rt, h.number())
 }
 
 // North, east and height are 0 to 2.
@@ -132,10 +127,16 @@ fn dimension_by(n: u64) -> Dimension {
     }
 }
 
-pub fn coordinate_by(rest: &[u8; passport::REST_WIDTH], reference: u32, d: u64, bits: u64) {
+pub fn coordinate_by(
+    rt: &impl Print,
+    rest: &[u8; passport::REST_WIDTH],
+    reference: u32,
+    d: u64,
+    bits: u64,
+) -> io::Result<()> {
     match coordinate_of(rest, reference, dimension_by(d), bits) {
-        CoordinateAnswer::Plane(c) => plane(c),
-        CoordinateAnswer::Height(h) => high(h),
-        CoordinateAnswer::Refused(r) => print::refused(r),
+        CoordinateAnswer::Plane(c) => plane(rt, c),
+        CoordinateAnswer::Height(h) => high(rt, h),
+        CoordinateAnswer::Refused(r) => print::refused(rt, r),
     }
 }

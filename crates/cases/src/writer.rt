@@ -6,6 +6,7 @@ use crate::print::{FILL_BYTE, number};
 use crate::{lists, print};
 use layout::{Written, carried, descriptor, passport};
 use reading::setting::Setting;
+use std::io;
 
 fn byte_at(bytes: &[u8], at: usize) -> u8 {
     if at < bytes.len() { bytes[at] } else { 0 }
@@ -49,14 +50,14 @@ fn written(form: &Form, bytes: &Bytes, setting: Setting, out: &mut [u8]) -> Writ
     )
 }
 
-fn difference(place: usize, byte: u8) {
-    print::word(b" @");
-    number(place as u64);
-    number(byte as u64);
+fn difference(rt: &impl Print, place: usize, byte: u8) -> io::Result<()> {
+    print::word(rt, b" @")?;
+    number(rt, place as u64)?;
+    number(rt, byte as u64)
 }
 
 // Each byte of the lent memory that is not the sheet's or, from the length on, not what it was before the call.
-fn differences(out: &[u8; 1024], sheet: &[u8], end: usize) {
+fn differences(rt: &impl Print, out: &[u8; 1024], sheet: &[u8], end: usize) -> io::Result<()> {
     let mut i = 0;
     while i < 1024 {
         let stated = if i < end {
@@ -65,31 +66,38 @@ fn differences(out: &[u8; 1024], sheet: &[u8], end: usize) {
             FILL_BYTE
         };
         if out[i] != stated {
-            difference(i, out[i]);
+            difference(rt, i, out[i])?;
         }
         i += 1;
     }
+    Ok(())
 }
 
 // The length that was written, or 0 after a refusal.
-fn told(w: Written) -> usize {
+fn told(rt: &impl Print, w: Written) -> io::Result<usize> {
     match w {
         Written::Length(n) => {
-            number(n as u64);
-            n
+            number(rt, n as u64)?;
+            Ok(n)
         }
         Written::Refused(r) => {
-            print::refused(r);
-            0
+            print::refused(rt, r)?;
+            Ok(0)
         }
     }
 }
 
 // Into so much memory.
-pub fn write(form: &Form, bytes: &Bytes, setting: Setting, room: usize)
+pub fn write(
+    rt: &impl Print,
+    form: &Form,
+    bytes: &Bytes,
+    setting: Setting,
+    room: usize,
+) -> io::Result<()>
     requires { room ≤ 1024 }
 {
     let mut out = [FILL_BYTE; 1024];
-    let n = told(written(form, bytes, setting, &mut out[0..room]));
-    differences(&out, part(form, bytes, lists::SHEET), n);
+    let n = told(rt, written(form, bytes, setting, &mut out[0..room]))?;
+    differences(rt, &out, part(form, bytes, lists::SHEET), n)
 }

@@ -2,15 +2,17 @@
 // its own head and its three slices, which gives the same bytes. Then record tables made here are written, and unfolded again to the
 // same numbers, at the setting that they were written for and at 2017. Last, some that the writer refuses.
 //
-// Relied on: the public calls of `reading` and `writing`, which are what is tried; the types of their answers (`layout`); the kit's
-// `os` and `io` for files and output. `data/` has copies of the accepted sheets of samples/, since the gate follows no link out of a
+// Relied on: the public calls of `reading` and `writing`, which are what is tried; the types of their answers (`layout`); `std::fs` and
+// `std::io` for files and output. `data/` has copies of the accepted sheets of samples/, since the gate follows no link out of a
 // crate.
 //
 // Promised: it is safe and it ends. What disagrees prints a FAILED line with its name and setting, all else a line of its own; the
 // gate compares all of it with the file `stdout` beside this. A slice that is compared was filled beforehand, and is compared to its
-// end.
+// end. A write that fails ends the program with that error.
 //
 // Not tried here: the sample `long`. Its 32,000 elements have no room in a buffer of 65,536 bytes; `tables` has a line of 8,000.
+#![tactic(auto)]
+
 mod parts;
 mod refusals;
 mod same;
@@ -18,8 +20,10 @@ mod samples;
 mod tables;
 mod tell;
 
-fn main() {
-    samples::all();
-    tables::all();
-    refusals::all();
+use std::io;
+
+fn main(rt: HostRuntime) -> io::Result<()> {
+    samples::all(&rt)?;
+    tables::all(&rt)?;
+    refusals::all(&rt)
 }

@@ -1,4 +1,6 @@
 // The sample sheets: unfolded, written again, and compared byte for byte.
+ghost use Rattle.std.specs.Prelude.{◌≤◌, length};
+
 use crate::parts::{carried_of, part, rest_of, start};
 use crate::same::{FILL, FILL_BYTE, bytes_as};
 use crate::tell::{done, failed};
@@ -6,6 +8,10 @@ use layout::{Checked, HeadAt, Headed, Written, descriptor, passport};
 use meanings::setting::Setting;
 use reading::heads::head_of;
 use reading::sheets::unfold;
+use std::fs::File;
+use std::io;
+use std::io::Read;
+use std::rt::Files;
 use writing::sheets::write;
 
 // How many numbers or elements there is room for, and how many bytes. No sample here takes more.
@@ -77,11 +83,11 @@ fn is_again(s: &[u8], at: Setting) -> bool {
     }
 }
 
-fn tried(name: &[u8], s: &[u8], at: Setting) {
+fn tried(rt: &impl Print, name: &[u8], s: &[u8], at: Setting) -> io::Result<()> {
     if is_again(s, at) {
-        done(name, s.len(), b"again", at);
+        done(rt, name, s.len(), b"again", at)
     } else {
-        failed(name, at);
+        failed(rt, name, at)
     }
 }
 
@@ -91,31 +97,53 @@ fn name_of(path: &[u8]) -> &[u8] {
     if 4 < n { start(path, n - 4) } else { path }
 }
 
+// Reads until the buffer is full, the input ends or a read fails, and answers how many bytes it put at the buffer's start.
+fn read_full(from: &mut impl Read, buffer: &mut [u8]) -> usize
+    ensures { result ≤ length buffer.new }
+{
+    let mut done = 0;
+    while done < buffer.len() {
+        match from.read(&mut buffer[done..]) {
+            Ok(0) | Err(_) => return done,
+            Ok(n) => done += n,
+        }
+    }
+    done
+}
+
+// The same from a file, of which one that cannot be opened has no bytes.
+fn read_file(rt: &impl Files, path: &str, buffer: &mut [u8]) -> usize
+    ensures { result ≤ length buffer.new }
+{
+    match File::open(rt, path) {
+        Ok(mut file) => read_full(&mut file, buffer),
+        Err(_) => 0,
+    }
+}
+
 // The sheet of a file. One that cannot be opened or read counts as an empty sheet, which fails.
-fn sample(path: &[u8], at: Setting) {
+fn sample(rt: &(impl Files + Print), path: &str, at: Setting) -> io::Result<()> {
     let mut sheet = [0u8; BYTES];
-    let file = os::open_read(path);
-    let length = io::read_full(file, &mut sheet);
-    libc::close(file);
-    tried(name_of(path), &sheet[..length], at);
+    let length = read_file(rt, path, &mut sheet);
+    tried(rt, name_of(path.as_bytes()), &sheet[..length], at)
 }
 
 // Document 01's own sheets have nothing of a later year than 1999.
-fn of_any_year(path: &[u8]) {
-    sample(path, Setting::Y1999);
-    sample(path, Setting::Y2008);
-    sample(path, Setting::Y2017);
+fn of_any_year(rt: &(impl Files + Print), path: &str) -> io::Result<()> {
+    sample(rt, path, Setting::Y1999)?;
+    sample(rt, path, Setting::Y2008)?;
+    sample(rt, path, Setting::Y2017)
 }
 
-pub fn all() {
-    of_any_year(b"E.sxf");
-    of_any_year(b"P.sxf");
-    of_any_year(b"Q.sxf");
-    sample(b"head.sxf", Setting::Y2017);
-    sample(b"labels.sxf", Setting::Y2017);
-    sample(b"heights.sxf", Setting::Y2017);
-    sample(b"items.sxf", Setting::Y2017);
-    sample(b"dated.sxf", Setting::Y2017);
-    sample(b"mark-small.sxf", Setting::Y2004);
-    sample(b"mark-small.sxf", Setting::Y2017);
+pub fn all(rt: &(impl Files + Print)) -> io::Result<()> {
+    of_any_year(rt, "E.sxf")?;
+    of_any_year(rt, "P.sxf")?;
+    of_any_year(rt, "Q.sxf")?;
+    sample(rt, "head.sxf", Setting::Y2017)?;
+    sample(rt, "labels.sxf", Setting::Y2017)?;
+    sample(rt, "heights.sxf", Setting::Y2017)?;
+    sample(rt, "items.sxf", Setting::Y2017)?;
+    sample(rt, "dated.sxf", Setting::Y2017)?;
+    sample(rt, "mark-small.sxf", Setting::Y2004)?;
+    sample(rt, "mark-small.sxf", Setting::Y2017)
 }

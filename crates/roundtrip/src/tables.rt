@@ -5,6 +5,7 @@ use crate::tell::{done, failed};
 use layout::{Checked, Written, passport};
 use meanings::setting::Setting;
 use reading::sheets::unfold;
+use std::io;
 use writing::sheets::write;
 
 // The bytes from 96 on of a sheet that has nothing but what it must.
@@ -60,20 +61,25 @@ fn reads_twice(s: &[u8], at: Setting, table: &[u64], elements: &[u64], bytes: &[
     reads_as(s, at, table, elements, bytes) && reads_as(s, Setting::Y2017, table, elements, bytes)
 }
 
-fn tried(name: &[u8], table: &[u64], elements: &[u64], bytes: &[u8], at: Setting) {
+fn tried(
+    rt: &impl Print,
+    name: &[u8],
+    table: &[u64],
+    elements: &[u64],
+    bytes: &[u8],
+    at: Setting,
+) -> io::Result<()> {
     let mut out = [FILL_BYTE; 65536];
     match written(table, elements, bytes, at, &mut out) {
         Written::Length(n) => {
             let s = start(&out, n);
             if bytes_as(&out, s) && reads_twice(s, at, table, elements, bytes) {
-                done(name, n, b"read back", at);
+                done(rt, name, n, b"read back", at)
             } else {
-                failed(name, at);
+                failed(rt, name, at)
             }
         }
-        Written::Refused(_) => {
-            failed(name, at);
-        }
+        Written::Refused(_) => failed(rt, name, at),
     }
 }
 
@@ -86,25 +92,32 @@ const LABELS: [u64; 32] = [
     5, 1, 1, 524803, 255, 0, 1, 1, 0, 2, 3, 20, 0, 1, 2,
 ];
 
-fn two_labels(at: Setting) {
+fn two_labels(rt: &impl Print, at: Setting) -> io::Result<()> {
     let elements = [1, 2, 3, 4, 5, 0xFFFF, 100, 200, 300, 500];
-    tried(b"two labels", &LABELS, &elements, b"ab\xF9\x04xyzA\0", at);
+    tried(
+        rt,
+        b"two labels",
+        &LABELS,
+        &elements,
+        b"ab\xF9\x04xyzA\0",
+        at,
+    )
 }
 
 // Two lines with a spline, which is of 2004: reference bytes 0, 4 and 0x40, so that an element has four bytes. One has no point.
-fn two_splines(at: Setting) {
+fn two_splines(rt: &impl Print, at: Setting) -> io::Result<()> {
     let table = [
         1, 0, 0, 4195328, 255, 0, 1, 0, 0, 3, 0, 2, 0, 0, 4195328, 255, 0, 1, 0, 0, 0, 0,
     ];
     let elements = [1, 2, 70000, 4, 5, 0xFFFFFFFF];
-    tried(b"two splines", &table, &elements, b"", at);
+    tried(rt, b"two splines", &table, &elements, b"", at)
 }
 
 // A point of three doubles with an item of type 128, which is of 2012: reference bytes 2, 6 and 6.
-fn long_value(at: Setting) {
+fn long_value(rt: &impl Print, at: Setting) -> io::Result<()> {
     let table = [3, 0, 0, 394754, 255, 0, 1, 1, 0, 1, 0, 8, 128, 255, 4];
     let elements = [0x3FF0000000000000, 0x4000000000000000, 0x4008000000000000];
-    tried(b"long value", &table, &elements, b"A\0\0\0", at);
+    tried(rt, b"long value", &table, &elements, b"A\0\0\0", at)
 }
 
 // Elements of which no two are the same, and no byte is always zero.
@@ -121,32 +134,32 @@ fn varied() -> [u64; 8000] {
 }
 
 // A line of 4,000 points, of two doubles each: reference bytes 0, 4 and 4.
-fn long_line(at: Setting) {
+fn long_line(rt: &impl Print, at: Setting) -> io::Result<()> {
     let elements = varied();
     let table = [4, 0, 0, 263168, 255, 0, 1, 0, 0, 4000, 0];
-    tried(b"long line", &table, &elements, b"", at);
+    tried(rt, b"long line", &table, &elements, b"", at)
 }
 
 // A shore of two points with an island of three, under the mark, which is of 2004: reference bytes 1, 0 and 0. The word is the first
 // count.
-fn shore(at: Setting) {
+fn shore(rt: &impl Print, at: Setting) -> io::Result<()> {
     let table = [5, 0, 0, 1, 255, 2, 2, 0, 1, 2, 0, 3, 0];
     let elements = [1, 2, 3, 4, 5, 6, 7, 8, 9, 10];
-    tried(b"shore", &table, &elements, b"", at);
+    tried(rt, b"shore", &table, &elements, b"", at)
 }
 
-pub fn all() {
-    two_labels(Setting::Y1999);
-    two_labels(Setting::Y2004);
-    two_labels(Setting::Y2012);
-    two_labels(Setting::Y2017);
-    two_splines(Setting::Y2004);
-    two_splines(Setting::Y2012);
-    two_splines(Setting::Y2017);
-    long_value(Setting::Y2012);
-    long_value(Setting::Y2017);
-    long_line(Setting::Y1999);
-    long_line(Setting::Y2017);
-    shore(Setting::Y2004);
-    shore(Setting::Y2017);
+pub fn all(rt: &impl Print) -> io::Result<()> {
+    two_labels(rt, Setting::Y1999)?;
+    two_labels(rt, Setting::Y2004)?;
+    two_labels(rt, Setting::Y2012)?;
+    two_labels(rt, Setting::Y2017)?;
+    two_splines(rt, Setting::Y2004)?;
+    two_splines(rt, Setting::Y2012)?;
+    two_splines(rt, Setting::Y2017)?;
+    long_value(rt, Setting::Y2012)?;
+    long_value(rt, Setting::Y2017)?;
+    long_line(rt, Setting::Y1999)?;
+    long_line(rt, Setting::Y2017)?;
+    shore(rt, Setting::Y2004)?;
+    shore(rt, Setting::Y2017)
 }

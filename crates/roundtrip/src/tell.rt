@@ -1,38 +1,51 @@
 // The lines.
 use meanings::setting::Setting;
+use std::io;
 
-fn number(n: u64) {
-    io::write_all(1, b" ");
-    io::print_decimal(1, n);
+fn number(rt: &impl Print, n: u64) -> io::Result<()> {
+    print!(rt; " {n}")
 }
 
-fn setting(at: Setting) {
-    io::write_all(1, b" at");
-    number(at.year() as u64);
-    io::write_all(1, b"\n");
+fn setting(rt: &impl Print, at: Setting) -> io::Result<()> {
+    rt.print(" at")?;
+    number(rt, at.year() as u64)?;
+    rt.print("\n")
 }
 
-pub fn failed(name: &[u8], at: Setting) {
-    io::write_all(1, b"FAILED ");
-    io::write_all(1, name);
-    setting(at);
+pub fn failed(rt: &impl Print, name: &[u8], at: Setting) -> io::Result<()> {
+    rt.print("FAILED ")?;
+    rt.write_all(name)?;
+    setting(rt, at)
 }
 
 // So many bytes, and what became of them.
-pub fn done(name: &[u8], length: usize, what: &[u8], at: Setting) {
-    io::write_all(1, name);
-    number(length as u64);
-    io::write_all(1, b" bytes ");
-    io::write_all(1, what);
-    setting(at);
+pub fn done(
+    rt: &impl Print,
+    name: &[u8],
+    length: usize,
+    what: &[u8],
+    at: Setting,
+) -> io::Result<()> {
+    rt.write_all(name)?;
+    number(rt, length as u64)?;
+    rt.print(" bytes ")?;
+    rt.write_all(what)?;
+    setting(rt, at)
 }
 
 // A refusal: number, place and year.
-pub fn refused(name: &[u8], number_of: u32, place: usize, year: u32, at: Setting) {
-    io::write_all(1, name);
-    io::write_all(1, b" REFUSED");
-    number(number_of as u64);
-    number(place as u64);
-    number(year as u64);
-    setting(at);
+pub fn refused(
+    rt: &impl Print,
+    name: &[u8],
+    number_of: u32,
+    place: usize,
+    year: u32,
+    at: Setting,
+) -> io::Result<()> {
+    rt.write_all(name)?;
+    rt.print(" REFUSED")?;
+    number(rt, number_of as u64)?;
+    number(rt, place as u64)?;
+    number(rt, year as u64)?;
+    setting(rt, at)
 }
