@@ -1,5 +1,5 @@
 /*
- * sxf.h: reads and writes sheets of binary SXF, edition 4.0, for C99 and C++. Link with libsxf.a (`rt staticlib sxf` makes it, for x86-64
+ * sxf.h: reads and writes sheets of binary SXF, edition 4.0, for C99 and C++. Link with libsxf.a (`rt lib` in crates/sxf makes it, for x86-64
  * Linux).
  *
  * Answers. Each call takes every value of its arguments and answers one struct by value. number is 0 (SXF_OK) on success. Else it is

@@ -1,7 +1,7 @@
 //! Holds every byte of each coding, and every unit of UTF-16, against glibc's `iconv`, one by one, and prints how many differ. It ends with 1 if
 //! any does. It is no part of the gate, and is run by hand:
 //!
-//!     rt staticlib sxf && cargo run --release --manifest-path rust/Cargo.toml -p measure -- texts --each
+//!     (cd crates/sxf && rt lib) && cargo run --release --manifest-path rust/Cargo.toml -p measure -- texts --each
 use crate::iconv::{Iconv, Unit};
 use crate::texts::{Coding, CODINGS};
 use std::fmt::LowerHex;

@@ -3,7 +3,7 @@
 //! row, so that it is also timed over what it left in the processor's caches itself, and not only over what the other did. Each figure is the best of
 //! many rounds, and what is found must be what the sheet was made with. It ends with 1 if a figure is not what is required:
 //!
-//!     rt staticlib sxf && cargo run --release --manifest-path rust/Cargo.toml -p measure -- hop
+//!     (cd crates/sxf && rt lib) && cargo run --release --manifest-path rust/Cargo.toml -p measure -- hop
 use crate::sheets::{self, Kind};
 use crate::{milliseconds, verdict};
 use std::hint::black_box;

@@ -2,7 +2,7 @@
 //! through it beside selecting from the sheet. Each figure is the best of many rounds, and in a round each of the five has its turn. Both
 //! selections must be the same, and hit as many records as have the code.
 //!
-//!     rt staticlib sxf && cargo run --release --manifest-path rust/Cargo.toml -p measure -- index
+//!     (cd crates/sxf && rt lib) && cargo run --release --manifest-path rust/Cargo.toml -p measure -- index
 use crate::random::Random;
 use crate::{milliseconds, sheets, verdict};
 use std::hint::black_box;

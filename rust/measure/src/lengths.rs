@@ -3,7 +3,7 @@
 //! more of what is timed where the sheets are short. In a round each has its turn, and each sheet has memory of its own, which was touched before. It
 //! ends with 1 if a figure is not what is required:
 //!
-//!     rt staticlib sxf && cargo run --release --manifest-path rust/Cargo.toml -p measure -- lengths
+//!     (cd crates/sxf && rt lib) && cargo run --release --manifest-path rust/Cargo.toml -p measure -- lengths
 use crate::sheets::{self, Kind};
 use crate::{milliseconds, verdict};
 use std::hint::black_box;

@@ -1,7 +1,7 @@
 //! Times text of the three codings that is turned to UTF-16 and back beside glibc's `iconv`, in the same run, each into memory that is at hand.
 //! Each figure is the best of the rounds, and in a round each of the four has its turn. Both must give the same units and the same bytes.
 //!
-//!     rt staticlib sxf && cargo run --release --manifest-path rust/Cargo.toml -p measure -- texts
+//!     (cd crates/sxf && rt lib) && cargo run --release --manifest-path rust/Cargo.toml -p measure -- texts
 use crate::iconv::Iconv;
 use crate::milliseconds;
 use crate::random::Random;

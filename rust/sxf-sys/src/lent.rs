@@ -14,7 +14,7 @@ pub fn version() -> u32 {
 /// Sees to it that the archive has the record table, the structs and the blocks of an index that this crate declares: with others each record would be
 /// misread, a longer answer written past the room for it, or an index of another kind built.
 fn of_this_version() {
-    assert_eq!(version(), VERSION, "libsxf.a is of another version than sxf-sys: run `rt staticlib sxf` again");
+    assert_eq!(version(), VERSION, "libsxf.a is of another version than sxf-sys: run `rt lib` in crates/sxf again");
 }
 
 /// Checks a sheet.
