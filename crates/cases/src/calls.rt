@@ -1,28 +1,90 @@
-// Runs the call of a line, on the form that its words have filled.
+// The calls of a line, and what each answers, on the form that its words have filled.
 ghost use Rattle.std.specs.Prelude.{◌≤◌};
 
-use crate::lists::{Bytes, Form};
-use crate::text::NONE;
-use crate::{lists, names, print, reader, values, writer};
-use layout::years;
-use reading::setting::{Made, Setting};
+use crate::form::Form;
+use crate::lists::List;
+use crate::print::{Number, Tell, answer};
+use crate::reader::Rooms;
+use crate::values::dimension;
+use crate::words::BadLine;
+use crate::{reader, writer};
+use layout::{Refusal, years};
+use reading::coordinates::coordinate_of;
+use reading::setting::Setting;
 use reading::units::unit_of;
-use std::io;
+use reading::values::value_of;
+use reading::visibility::visibility_of;
+use std::alloc::Global;
+use std::str::FromStr;
+use std::{fmt, io};
 
-// How many numbers a call is asked with. They stand from 513 on. What is no call is asked with no count of numbers.
-fn asked(call: u64) -> u64 {
-    match call {
-        names::UNFOLD | names::UNITS => 4,
-        names::VALUE | names::COORDINATE => 3,
-        names::RECORD | names::WRITE | names::VISIBILITY => 2,
-        names::CHECK | names::HEAD | names::UNIT | names::CORNERS => 1,
-        names::SETTING | names::CONSTANT => 1,
-        _ => NONE,
+#[derive(Clone, Copy)]
+pub enum Call {
+    Check,
+    Unfold,
+    Record,
+    Head,
+    Unit,
+    Corners,
+    Write,
+    Setting,
+    Constant,
+    Visibility,
+    Value,
+    Units,
+    Coordinate,
+}
+
+impl FromStr for Call {
+    type Err = BadLine;
+
+    fn from_str(name: &str) -> Result<Call, BadLine> {
+        match name {
+            "check" => Ok(Call::Check),
+            "unfold" => Ok(Call::Unfold),
+            "record" => Ok(Call::Record),
+            "head" => Ok(Call::Head),
+            "unit" => Ok(Call::Unit),
+            "corners" => Ok(Call::Corners),
+            "write" => Ok(Call::Write),
+            "setting" => Ok(Call::Setting),
+            "constant" => Ok(Call::Constant),
+            "visibility" => Ok(Call::Visibility),
+            "value" => Ok(Call::Value),
+            "units" => Ok(Call::Units),
+            "coordinate" => Ok(Call::Coordinate),
+            _ => Err(BadLine),
+        }
     }
 }
 
-fn constant(year: u32) -> Setting {
-    match year {
+impl Tell for Setting {
+    fn tell<W: fmt::Write>(&self, f: &mut fmt::Formatter<W>) -> fmt::Result {
+        write!(f, "{}", Number(u64::from(self.year())))
+    }
+}
+
+fn low_byte(n: u64) -> u8 {
+    (n % 0x100) as u8
+}
+
+pub fn low_word(n: u64) -> u32 {
+    (n % 0x100000000) as u32
+}
+
+// As much memory as the line says, but no more than there is.
+pub fn room(n: u64, most: usize) -> usize
+    ensures { result ≤ most }
+{
+    n.min(most as u64) as usize
+}
+
+pub fn setting_of(year: u64) -> Result<Setting, Refusal> {
+    Setting::new(low_word(year))
+}
+
+fn constant(year: u64) -> Setting {
+    match low_word(year) {
         years::Y1999 => Setting::Y1999,
         years::Y2004 => Setting::Y2004,
         years::Y2006 => Setting::Y2006,
@@ -35,92 +97,53 @@ fn constant(year: u32) -> Setting {
     }
 }
 
-fn year_of(rt: &impl Print, setting: Setting) -> io::Result<()> {
-    print::number(rt, setting.year() as u64)
-}
-
-fn byte(n: u64) -> u8 {
-    (n % 0x100) as u8
-}
-
-fn word(n: u64) -> u32 {
-    (n % 0x100000000) as u32
-}
-
-// With the list `rest` for the passport's bytes.
-fn coordinate(rt: &impl Print, form: &Form, bytes: &Bytes) -> io::Result<()> {
-    let rest = writer::rest_of(lists::part(form, bytes, lists::REST));
-    values::coordinate_by(rt, &rest, word(form[513]), form[514], form[515])
-}
-
-fn on_numbers(rt: &impl Print, form: &Form, call: u64) -> io::Result<()> {
-    match call {
-        names::CONSTANT => year_of(rt, constant(word(form[513]))),
-        names::VISIBILITY => values::visibility(rt, form[513], form[514]),
-        names::VALUE => values::value(rt, form[513], form[514], form[515]),
-        names::UNITS => reader::unit(
+pub fn run(rt: &impl Print, alloc: Global, form: &Form) -> io::Result<()> {
+    let Some(call) = form.call() else {
+        return rt.print(BadLine);
+    };
+    let asked = form.values(List::Ask)?;
+    let s = form.bytes(alloc, List::Sheet)?;
+    match (call, asked.as_slice()) {
+        (Call::Check, [year]) => answer(rt, reader::check(&s, *year)),
+        (Call::Unfold, [year, numbers, elements, bytes]) => {
+            let rooms = Rooms {
+                numbers: *numbers,
+                elements: *elements,
+                bytes: *bytes,
+            };
+            reader::unfold(rt, alloc, &s, *year, rooms)
+        }
+        (Call::Record, [year, number]) => answer(rt, reader::record(&s, *year, *number)),
+        (Call::Head, [year]) => answer(rt, reader::head(&s, *year)),
+        (Call::Unit, [year]) => answer(rt, reader::unit(&s, *year)),
+        (Call::Corners, [year]) => answer(rt, reader::corners(&s, *year)),
+        (Call::Write, [year, room]) => writer::write(rt, alloc, form, *year, *room),
+        (Call::Setting, [year]) => answer(rt, setting_of(*year)),
+        (Call::Constant, [year]) => answer(rt, constant(*year)),
+        (Call::Visibility, [flags, byte]) => answer(
+            rt,
+            visibility_of(low_byte(*flags), low_byte(*byte)),
+        ),
+        (Call::Value, [kind, scale, bits]) => answer(
+            rt,
+            value_of(low_byte(*kind), low_byte(*scale), *bits),
+        ),
+        (Call::Units, [flags, resolution, accuracy, unit]) => answer(
             rt,
             unit_of(
-                byte(form[513]),
-                word(form[514]),
-                byte(form[515]),
-                byte(form[516]),
+                low_byte(*flags),
+                low_word(*resolution),
+                low_byte(*accuracy),
+                low_byte(*unit),
             ),
         ),
-        _ => coordinate(rt, form, &lists::bytes_of(form)),
-    }
-}
-
-// As much memory as the line says, but no more than there is.
-fn room(n: u64, most: usize) -> usize
-    ensures { result ≤ most }
-{
-    if n < most as u64 { n as usize } else { most }
-}
-
-fn on_sheet(
-    rt: &impl Print,
-    form: &Form,
-    bytes: &Bytes,
-    call: u64,
-    setting: Setting,
-) -> io::Result<()> {
-    let s = lists::part(form, bytes, lists::SHEET);
-    match call {
-        names::CHECK => reader::check(rt, s, setting),
-        names::UNFOLD => reader::unfold(
-            rt,
-            s,
-            setting,
-            room(form[514], 64),
-            room(form[515], 64),
-            room(form[516], 64),
-        ),
-        names::RECORD => reader::record_at(rt, s, setting, form[514]),
-        names::HEAD => reader::head_of(rt, s, setting),
-        names::UNIT => reader::unit_of(rt, s, setting),
-        names::CORNERS => reader::corners_of(rt, s, setting),
-        names::WRITE => writer::write(rt, form, bytes, setting, room(form[514], 1024)),
-        _ => year_of(rt, setting),
-    }
-}
-
-fn at_year(rt: &impl Print, form: &Form, call: u64, year: u32) -> io::Result<()> {
-    match Setting::new(year) {
-        Made::At(setting) => on_sheet(rt, form, &lists::bytes_of(form), call, setting),
-        Made::Refused(r) => print::refused(rt, r),
-    }
-}
-
-pub fn run(rt: &impl Print, form: &Form) -> io::Result<()> {
-    let call = form[lists::CALL];
-    if form[lists::WRONG] == 0 && form[lists::ASK] == asked(call) {
-        if call < names::CONSTANT {
-            at_year(rt, form, call, word(form[513]))
-        } else {
-            on_numbers(rt, form, call)
+        (Call::Coordinate, [reference, by, bits]) => {
+            let rest = writer::rest_of(alloc, form)?;
+            answer(
+                rt,
+                coordinate_of(&rest, low_word(*reference), dimension(*by), *bits),
+            )
         }
-    } else {
-        print::word(rt, b" BAD LINE")
+        _ => rt.print(BadLine),
     }
 }

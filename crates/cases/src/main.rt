@@ -1,96 +1,101 @@
 // Runs cases with stated answers: each line of the standard input is a case, and what it answers is printed behind its name. The cases stand in
 // the file `stdin` of this crate, which says at its top how a line is written, and the stated answers in `stdout`. A new case is a line in each.
-// A read or a write that fails ends it with that error.
+// A read or a write that fails, and memory that runs out, end it with that error.
 #![tactic(auto)]
 
 mod calls;
+mod form;
 mod lists;
-mod names;
 mod print;
 mod reader;
-mod text;
 mod values;
 mod words;
 mod writer;
 
-ghost use Rattle.std.specs.Prelude.{◌<◌};
+ghost use Rattle.std.specs.Prelude.{◌≤◌, length, IfSome};
 
-use lists::Form;
+use form::Form;
+use std::alloc::Global;
 use std::io;
 use std::io::Read;
-use text::{Text, byte_at, definition, find};
-use words::words;
+use words::BadLine;
+
+// How many bytes of input there are, with zeros after those that were read: a name that no blank follows has them too. The buffer does not grow.
+const ROOM: usize = 65536;
+
+// What stands behind the = of the line that defines a letter. The first line defines none.
+fn definition(text: &[u8], letter: u8) -> Option<&[u8]>
+    ensures { IfSome result (λ d. length d.now ≤ length text.now) }
+{
+    let at = text
+        .windows(3)
+        .position(|w| matches!(w, [b'\n', of, b'='] if *of == letter))?;
+    text.get(at + 3..)
+}
+
+// The letter of the sheet that a definition is made of, or what stands there in place of one.
+fn base_of(definition: Option<&[u8]>) -> u8 {
+    definition.and_then(|d| d.first().copied()).unwrap_or(0)
+}
 
 // The words of a sheet, and before them those of the sheet that it is made of, whose letter stands after the =, and of that one's. A letter
 // that no line defines is wrong; - stands for no sheet.
-fn define(form: &mut Form, text: &Text, letter: u8) {
+fn define(form: &mut Form, text: &[u8], letter: u8) -> Result<(), BadLine> {
     let third = definition(text, letter);
-    let second = definition(text, byte_at(text, third + 1));
-    let first = definition(text, byte_at(text, second + 1));
-    words(form, text, first);
-    words(form, text, second);
-    words(form, text, third);
-    if letter != b'-' && 65536 <= third {
-        form[lists::WRONG] = 1;
+    let second = definition(text, base_of(third));
+    let first = definition(text, base_of(second));
+    for line in [first, second, third].into_iter().flatten() {
+        form.fill(line)?;
     }
-}
-
-fn print_name(rt: &impl Print, text: &[u8], at: usize, end: usize) -> io::Result<()> {
-    if at < end {
-        if end <= text.len() {
-            print::word(rt, &text[at..end])?;
-        }
-    }
-    print::word(rt, b":")
-}
-
-fn case(rt: &impl Print, text: &Text, at: usize) -> io::Result<()>
-    requires { at < 65536 }
-{
-    let end = find(text, at + 2, b' ');
-    print_name(rt, text, at + 2, end)?;
-    let mut form = [0u64; 8192];
-    define(&mut form, text, byte_at(text, at));
-    words(&mut form, text, end);
-    lists::put_sum(&mut form);
-    calls::run(rt, &form)?;
-    print::word(rt, b"\n")
-}
-
-// A case begins with the letter of its sheet, or -, and a blank.
-fn lines(rt: &impl Print, text: &Text) -> io::Result<()> {
-    let mut before = b'\n';
-    let mut i = 0;
-    while i < 65536 {
-        let b = text[i];
-        if before == b'\n' && b != b'#' && byte_at(text, i + 1) == b' ' {
-            case(rt, text, i)?;
-        }
-        before = b;
-        i += 1;
+    if third.is_none() && letter != b'-' {
+        return Err(BadLine);
     }
     Ok(())
 }
 
-// Reads until the buffer is full or the input ends, and answers how many bytes it put at the buffer's start.
-fn read_full(from: &mut impl Read, buffer: &mut [u8]) -> io::Result<usize> {
-    let mut done = 0;
-    while done < buffer.len() {
-        let n = from.read(&mut buffer[done..])?;
-        if n == 0 {
-            break;
-        }
-        done += n;
+fn fill(form: &mut Form, text: &[u8], letter: u8, line: &[u8]) -> Result<(), BadLine> {
+    define(form, text, letter)?;
+    form.fill(line)?;
+    form.put_sum();
+    Ok(())
+}
+
+// The name of a case goes on to the next blank.
+fn case(rt: &impl Print, alloc: Global, text: &[u8], letter: u8, rest: &[u8]) -> io::Result<()> {
+    let end = rest.iter().position(|b| *b == b' ').unwrap_or(rest.len());
+    let (name, line) = rest.split_at(end);
+    rt.write_all(name)?;
+    rt.print(":")?;
+    let mut form = Form::new(alloc)?;
+    match fill(&mut form, text, letter, line) {
+        Ok(()) => calls::run(rt, alloc, &form)?,
+        Err(bad) => rt.print(bad)?,
     }
-    Ok(done)
+    rt.print("\n")
+}
+
+// A case begins with the letter of its sheet, or -, and a blank.
+fn cases(rt: &impl Print, alloc: Global, text: &[u8]) -> io::Result<()> {
+    let mut rest = text;
+    for line in text.split_inclusive(|b| *b == b'\n') {
+        if let [letter, b' ', case_of @ ..] = rest
+            && *letter != b'#'
+        {
+            case(rt, alloc, text, *letter, case_of)?;
+        }
+        rest = rest.get(line.len()..).unwrap_or(&[]);
+    }
+    Ok(())
 }
 
 fn main(rt: HostRuntime) -> io::Result<()> {
-    let mut text = [0u8; 65536];
-    let n = read_full(&mut rt.reader(), &mut text)?;
-    lines(&rt, &text)?;
-    if n == 65536 {
-        print::word(&rt, b"TOO LONG\n")?;
+    let alloc = rt.alloc();
+    let mut text = Vec::with_capacity(alloc, ROOM)?;
+    let n = io::copy(&mut rt.reader().take(ROOM as u64), &mut text)?;
+    text.resize(ROOM, 0)?;
+    cases(&rt, alloc, &text)?;
+    if n == ROOM as u64 {
+        rt.print("TOO LONG\n")?;
     }
     Ok(())
 }

@@ -1,151 +1,152 @@
-// The calls of `reading` that take a sheet and a setting.
-ghost use Rattle.std.specs.Prelude.{◌≤◌};
-
-use crate::print;
-use crate::print::{FILL, FILL_BYTE, number};
-use layout::{CornerBits, Corners, Found, Headed, PlaneCorners, RecordAt, SheetUnit, UnitAnswer};
+// The calls of `reading` that take a sheet and a year.
+use crate::calls::{room, setting_of};
+use crate::print::{FILL, FILL_BYTE, Number, Numbers, Tell, answer};
+use crate::values::double_bits;
+use layout::{Corners, HeadAt, PlaneCorners, RecordAt, Refusal, SheetUnit, Sizes};
 use reading::setting::Setting;
-use std::io;
+use reading::{heads, records, sheets};
+use std::alloc::Global;
+use std::{fmt, io};
 
-pub fn check(rt: &impl Print, s: &[u8], setting: Setting) -> io::Result<()> {
-    print::checked(rt, reading::sheets::check(s, setting))
+pub fn check(s: &[u8], year: u64) -> Result<Sizes, Refusal> {
+    sheets::check(s, setting_of(year)?)
 }
 
-// Into so much memory for numbers, elements and bytes. All of that memory is printed after the answer.
-pub fn unfold(
+// How much memory is lent for numbers, elements and bytes.
+#[derive(Clone, Copy)]
+pub struct Rooms {
+    pub numbers: u64,
+    pub elements: u64,
+    pub bytes: u64,
+}
+
+// Into so much memory, of which all is printed after the answer.
+fn unfold_at(
     rt: &impl Print,
+    alloc: Global,
     s: &[u8],
-    setting: Setting,
-    n: usize,
-    e: usize,
-    b: usize,
-) -> io::Result<()>
-    requires { (n ≤ 64) × (e ≤ 64) × (b ≤ 64) }
-{
-    let mut table = [FILL; 64];
-    let mut elements = [FILL; 64];
-    let mut bytes = [FILL_BYTE; 64];
-    print::checked(
+    at: Setting,
+    rooms: Rooms,
+) -> io::Result<()> {
+    let mut table = vec![in alloc; FILL; room(rooms.numbers, 64)]?;
+    let mut elements = vec![in alloc; FILL; room(rooms.elements, 64)]?;
+    let mut bytes = vec![in alloc; FILL_BYTE; room(rooms.bytes, 64)]?;
+    answer(
         rt,
-        reading::sheets::unfold(
-            s,
-            setting,
-            &mut table[0..n],
-            &mut elements[0..e],
-            &mut bytes[0..b],
-        ),
+        sheets::unfold(s, at, &mut table, &mut elements, &mut bytes),
     )?;
-    print::lent(rt, table, n)?;
-    print::lent(rt, elements, e)?;
-    print::lent_bytes(rt, bytes, b)
+    let table = table.as_slice();
+    let elements = elements.as_slice();
+    let bytes = bytes.as_slice();
+    print!(rt;
+        " |{} |{} |{}",
+        Numbers(table),
+        Numbers(elements),
+        Numbers(bytes)
+    )
 }
 
-fn record(rt: &impl Print, r: RecordAt) -> io::Result<()> {
-    number(rt, r.place as u64)?;
-    number(rt, r.total as u64)?;
-    number(rt, r.code as u64)?;
-    number(rt, r.in_group as u64)?;
-    number(rt, r.group as u64)?;
-    number(rt, r.reference as u64)?;
-    number(rt, r.generalisation as u64)?;
-    number(rt, r.word as u64)?;
-    number(rt, r.parts as u64)?;
-    number(rt, r.items as u64)?;
-    number(rt, r.mark as u64)?;
-    number(rt, r.points as u64)
-}
-
-pub fn record_at(rt: &impl Print, s: &[u8], setting: Setting, number: u64) -> io::Result<()> {
-    match reading::records::record_at(s, setting, number) {
-        Found::Record(r) => record(rt, r),
-        Found::Refused(r) => print::refused(rt, r),
+pub fn unfold(rt: &impl Print, alloc: Global, s: &[u8], year: u64, rooms: Rooms) -> io::Result<()> {
+    match setting_of(year) {
+        Ok(at) => unfold_at(rt, alloc, s, at, rooms),
+        Err(r) => answer(rt, r),
     }
 }
 
-// Whether a text field is clean.
-fn flag(rt: &impl Print, clean: bool) -> io::Result<()> {
-    if clean {
-        print::word(rt, b" clean")
-    } else {
-        print::word(rt, b" dirty")
+pub fn record(s: &[u8], year: u64, number: u64) -> Result<RecordAt, Refusal> {
+    records::record_at(s, setting_of(year)?, number)
+}
+
+impl Tell for RecordAt {
+    fn tell<W: fmt::Write>(&self, f: &mut fmt::Formatter<W>) -> fmt::Result {
+        let numbers = [
+            self.place as u64,
+            self.total as u64,
+            u64::from(self.code),
+            u64::from(self.in_group),
+            u64::from(self.group),
+            u64::from(self.reference),
+            u64::from(self.generalisation),
+            u64::from(self.word),
+            u64::from(self.parts),
+            self.items as u64,
+            u64::from(self.mark),
+            u64::from(self.points),
+        ];
+        write!(f, "{}", Numbers(&numbers))
     }
+}
+
+pub fn head(s: &[u8], year: u64) -> Result<HeadAt, Refusal> {
+    heads::head_of(s, setting_of(year)?)
 }
 
 // The lengths of the texts, with the scale after the designation, and which fields are clean.
-pub fn head_of(rt: &impl Print, s: &[u8], setting: Setting) -> io::Result<()> {
-    match reading::heads::head_of(s, setting) {
-        Headed::Head(h) => {
-            number(rt, h.date as u64)?;
-            number(rt, h.designation as u64)?;
-            number(rt, h.scale as u64)?;
-            number(rt, h.title as u64)?;
-            number(rt, h.designation2 as u64)?;
-            flag(rt, h.date_clean)?;
-            flag(rt, h.designation_clean)?;
-            flag(rt, h.title_clean)?;
-            flag(rt, h.designation2_clean)
+impl Tell for HeadAt {
+    fn tell<W: fmt::Write>(&self, f: &mut fmt::Formatter<W>) -> fmt::Result {
+        let numbers = [
+            self.date.length as u64,
+            self.designation.length as u64,
+            u64::from(self.scale),
+            self.title.length as u64,
+            self.designation2.length as u64,
+        ];
+        write!(f, "{}", Numbers(&numbers))?;
+        let texts = [self.date, self.designation, self.title, self.designation2];
+        for text in texts {
+            f.write_str(if text.clean { " clean" } else { " dirty" })?;
         }
-        Headed::Refused(r) => print::refused(rt, r),
+        Ok(())
     }
 }
 
-pub fn unit(rt: &impl Print, u: SheetUnit) -> io::Result<()> {
-    match u {
-        SheetUnit::DevicePoints => print::word(rt, b" device points"),
-        SheetUnit::Metres => print::word(rt, b" metres"),
-        SheetUnit::Radians => print::word(rt, b" radians"),
-        SheetUnit::Degrees => print::word(rt, b" degrees"),
-        SheetUnit::Unknown(b) => {
-            print::word(rt, b" unknown")?;
-            number(rt, b as u64)
+pub fn unit(s: &[u8], year: u64) -> Result<SheetUnit, Refusal> {
+    heads::unit_of(s, setting_of(year)?)
+}
+
+impl Tell for SheetUnit {
+    fn tell<W: fmt::Write>(&self, f: &mut fmt::Formatter<W>) -> fmt::Result {
+        match self {
+            SheetUnit::DevicePoints => f.write_str(" device points"),
+            SheetUnit::Metres => f.write_str(" metres"),
+            SheetUnit::Radians => f.write_str(" radians"),
+            SheetUnit::Degrees => f.write_str(" degrees"),
+            SheetUnit::Unknown(byte) => write!(f, " unknown{}", Number(u64::from(*byte))),
         }
     }
 }
 
-pub fn unit_of(rt: &impl Print, s: &[u8], setting: Setting) -> io::Result<()> {
-    match reading::heads::unit_of(s, setting) {
-        UnitAnswer::Unit(u) => unit(rt, u),
-        UnitAnswer::Refused(r) => print::refused(rt, r),
+pub fn corners(s: &[u8], year: u64) -> Result<Corners, Refusal> {
+    heads::corners_of(s, setting_of(year)?)
+}
+
+// In the order in which they are stored.
+fn corner_numbers<T: Copy>(c: &PlaneCorners<T>) -> [T; 8] {
+    [
+        c.sw_x, c.sw_y, c.nw_x, c.nw_y, c.ne_x, c.ne_y, c.se_x, c.se_y,
+    ]
+}
+
+impl Tell for PlaneCorners<f64> {
+    fn tell<W: fmt::Write>(&self, f: &mut fmt::Formatter<W>) -> fmt::Result {
+        write!(f, "{}", Numbers(&corner_numbers(self).map(double_bits)))
     }
 }
 
-// The bits of a double. Those of a NaN are undefined, and it alone is not equal to itself: all ones stand for it.
-pub fn double_bits(d: f64) -> u64 {
-    if d == d {
-        f64::to_bits(d)
-    } else {
-        0xFFFFFFFFFFFFFFFF
+impl Tell for PlaneCorners<u64> {
+    fn tell<W: fmt::Write>(&self, f: &mut fmt::Formatter<W>) -> fmt::Result {
+        write!(f, "{}", Numbers(&corner_numbers(self)))
     }
 }
 
-fn doubles(rt: &impl Print, c: PlaneCorners) -> io::Result<()> {
-    number(rt, double_bits(c.sw_x))?;
-    number(rt, double_bits(c.sw_y))?;
-    number(rt, double_bits(c.nw_x))?;
-    number(rt, double_bits(c.nw_y))?;
-    number(rt, double_bits(c.ne_x))?;
-    number(rt, double_bits(c.ne_y))?;
-    number(rt, double_bits(c.se_x))?;
-    number(rt, double_bits(c.se_y))
-}
-
-fn corner_bits(rt: &impl Print, place: usize, c: CornerBits) -> io::Result<()> {
-    print::word(rt, b" bits")?;
-    number(rt, place as u64)?;
-    number(rt, c.sw_x)?;
-    number(rt, c.sw_y)?;
-    number(rt, c.nw_x)?;
-    number(rt, c.nw_y)?;
-    number(rt, c.ne_x)?;
-    number(rt, c.ne_y)?;
-    number(rt, c.se_x)?;
-    number(rt, c.se_y)
-}
-
-pub fn corners_of(rt: &impl Print, s: &[u8], setting: Setting) -> io::Result<()> {
-    match reading::heads::corners_of(s, setting) {
-        Corners::Doubles(c) => doubles(rt, c),
-        Corners::Bits(place, c) => corner_bits(rt, place, c),
-        Corners::Refused(r) => print::refused(rt, r),
+impl Tell for Corners {
+    fn tell<W: fmt::Write>(&self, f: &mut fmt::Formatter<W>) -> fmt::Result {
+        match self {
+            Corners::Doubles(c) => c.tell(f),
+            Corners::Bits(place, c) => {
+                write!(f, " bits{}", Number(*place as u64))?;
+                c.tell(f)
+            }
+        }
     }
 }

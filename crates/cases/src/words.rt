@@ -1,88 +1,104 @@
-// The words of a line, and what each does to the form. A function that takes the place of the next value answers the place after.
-ghost use Rattle.std.specs.Prelude.{◌<◌};
+// The words of a line.
+use crate::calls::Call;
+use crate::lists::List;
+use std::{fmt, str};
 
-use crate::lists::{Form, put, wrong};
-use crate::text::{Text, byte_at, is_blank, number};
-use crate::{lists, names};
+// A line that is none: a word is none, a value does not fit, or the call is not asked with as many numbers as it takes.
+#[derive(Clone, Copy)]
+pub struct BadLine;
 
-// @N: a place of the list that was named last, or else of the sheet. #N: how many values it has; those not given are zeros.
-fn marked(form: &mut Form, at: usize, mark: u8, n: u64) -> usize {
-    let list = if at < lists::SCALE {
-        lists::SHEET
-    } else {
-        lists::start_of(at)
-    };
-    if n < 2048 {
-        if list < 8192 {
-            if mark == b'#' {
-                form[list] = n;
-                return at;
-            }
-            return list + 1 + n as usize;
-        }
-    }
-    wrong(form, at)
-}
-
-// A list is named, or the call: a line has one.
-fn named(form: &mut Form, at: usize, name: u64) -> usize {
-    match name {
-        0 => wrong(form, at),
-        1..=names::SHEET => name as usize * 512 + 1,
-        _ => {
-            if form[lists::CALL] == 0 {
-                form[lists::CALL] = name;
-                return at;
-            }
-            wrong(form, at)
-        }
+impl fmt::Display for BadLine {
+    fn fmt<W: fmt::Write>(&self, f: &mut fmt::Formatter<W>) -> fmt::Result {
+        f.write_str(" BAD LINE")
     }
 }
 
-// The letters between two quotes.
-fn letters(form: &mut Form, at: usize, text: &Text, start: usize, end: usize) -> usize {
-    let mut at = at;
-    let mut i = start;
-    while i < end {
-        let b = byte_at(text, i);
-        if b != b'\'' {
-            at = put(form, at, b as u64);
-        }
-        i += 1;
-    }
-    at
+#[derive(Clone, Copy)]
+pub enum Word<'a> {
+    // @N, a place
+    Place(u16),
+    // #N, how many values
+    Count(u16),
+    Number(u64),
+    // what begins with a quote, whose other quotes are no letters
+    Letters(&'a [u8]),
+    // the letter of the sheet that a definition is made of
+    Base,
+    List(List),
+    Call(Call),
 }
 
-fn word(form: &mut Form, at: usize, text: &Text, start: usize, end: usize) -> usize
-    requires { start < 65536 }
-{
-    let first = byte_at(text, start);
-    match first {
-        b'@' | b'#' => marked(form, at, first, number(text, start + 1, end)),
-        b'0'..=b'9' => put(form, at, number(text, start, end)),
-        b'\'' => letters(form, at, text, start, end),
-        // the letter of the sheet that a definition is made of
-        b'A'..=b'Z' => at,
-        _ => named(form, at, names::name_of(text, start, end)),
+// What stands between two words.
+pub fn is_blank(byte: u8) -> bool {
+    matches!(byte, b' ' | b'\n' | b'=' | b',')
+}
+
+// A line up to its end. Of one that has none, a word that no blank follows is left out.
+pub fn whole_words(rest: &[u8]) -> &[u8] {
+    let end = rest.iter().position(|b| *b == b'\n');
+    let end = end.or_else(|| rest.iter().rposition(|b| is_blank(*b)));
+    end.and_then(|end| rest.get(..end)).unwrap_or(&[])
+}
+
+fn digit(byte: u8) -> Option<u8> {
+    match byte {
+        b'0'..=b'9' => Some(byte - b'0'),
+        b'A'..=b'F' => Some(byte - b'A' + 10),
+        _ => None,
     }
 }
 
-// All words from a place to the end of the line. What comes first is asked of the call.
-pub fn words(form: &mut Form, text: &Text, from: usize) {
-    let mut at = lists::ASK + 1;
-    let mut start = from;
-    let mut i = from;
-    while i < 65536 {
-        let b = text[i];
-        if is_blank(b) {
-            if start < i {
-                at = word(form, at, text, start, i);
-            }
-            start = i + 1;
+// A number with one more digit. `from_str_radix` would take small letters and signs, and has no limit of 60 bits before the last digit.
+fn with_digit(n: u64, radix: u8, byte: u8) -> Option<u64> {
+    let digit = digit(byte).filter(|digit| *digit < radix)?;
+    if 0x1000000000000000 <= n {
+        return None;
+    }
+    n.checked_mul(u64::from(radix))?
+        .checked_add(u64::from(digit))
+}
+
+// The number of a word: decimal, or hexadecimal after 0x.
+fn number(word: &[u8]) -> Result<u64, BadLine> {
+    let mut radix = 10;
+    let mut n = 0;
+    for byte in word {
+        if *byte == b'x' {
+            radix = 16;
+        } else {
+            n = with_digit(n, radix, *byte).ok_or(BadLine)?;
         }
-        if b == b'\n' {
-            return;
+    }
+    Ok(n)
+}
+
+fn named(word: &[u8]) -> Result<Word<'_>, BadLine> {
+    let name = str::from_utf8(word).map_err(|_| BadLine)?;
+    match name.parse::<List>() {
+        Ok(list) => Ok(Word::List(list)),
+        Err(BadLine) => Ok(Word::Call(name.parse::<Call>()?)),
+    }
+}
+
+// The number of a place or a count, which is one of the sheet's at most.
+fn small(word: &[u8]) -> Result<u16, BadLine> {
+    match number(word)? {
+        n @ 0..2048 => Ok(n as u16),
+        _ => Err(BadLine),
+    }
+}
+
+impl<'a> TryFrom<&'a [u8]> for Word<'a> {
+    type Error = BadLine;
+
+    fn try_from(word: &'a [u8]) -> Result<Word<'a>, BadLine> {
+        match word {
+            [b'@', place @ ..] => Ok(Word::Place(small(place)?)),
+            [b'#', count @ ..] => Ok(Word::Count(small(count)?)),
+            [b'0'..=b'9', ..] => Ok(Word::Number(number(word)?)),
+            [b'\'', letters @ ..] => Ok(Word::Letters(letters)),
+            [b'A'..=b'Z', ..] => Ok(Word::Base),
+            _ => named(word),
         }
-        i += 1;
     }
 }

@@ -1,4 +1,3 @@
--- Loops that look for the first and that put one by one (Loops), the guesses of the way back (Guesses), and the ways out of a call (Answers).
+-- The loop that puts what is turned, one by one (Loops), and a text in which each byte has a character (Every).
+pub mod Every
 pub mod Loops
-pub mod Guesses
-pub mod Answers

@@ -1,70 +1,79 @@
-// The way there: which bytes have a character, and the characters put one by one.
-ghost use Rattle.std.specs.Prelude.{true, map, ◌≡◌, ◌≤◌, length};
-ghost use Rattle.std.proofs.lemmas.List.Edits.{sets};
+// The way there: which bytes have a character, and the character of each.
+ghost use Rattle.std.specs.Prelude.{◌≡◌, length, position};
+ghost use Rattle.layout.specs.Answers.Calls.{lent};
+ghost use Rattle.layout.specs.Answers.Enums.{written_of};
+ghost use Rattle.layout.specs.Answers.Lent.{the_turned};
 ghost use Rattle.layout.specs.Codings.Tables.{no_character};
-ghost use Rattle.layout.specs.Codings.Turning.{character_of, first_of, lacks as lacksIn};
+ghost use Rattle.layout.specs.Codings.Turning.{table_of, character_of, lacks as lacksIn, to_utf16};
+ghost use Rattle.codings.specs.Guesses.{characters_same};
+ghost use Rattle.codings.specs.Numbers.{number_of, number_le};
 ghost use Rattle.codings.specs.Slots.{read_in};
+ghost use Rattle.codings.specs.Ways.{turned_laws};
 
-use crate::tables::BYTES;
-use layout::codings::WINDOWS;
+use crate::coding::Coding;
+use crate::tables::{BYTES, table_of};
+use crate::way::Way;
 
 // The only byte of the three codings without a character: it is one of page 1251.
 const WITHOUT: u8 = 0x98;
 
-fn lacks(coding: u32, byte: u8) -> bool
-    ensures { result ≡ lacksIn (character_of coding) no_character byte }
+// Whether a byte of page 1251 has no character.
+fn lacks(byte: u8) -> bool
+    ensures { result ≡ lacksIn (character_of 1) no_character byte }
 {
-    (coding == WINDOWS) & (byte == WITHOUT)
+    byte == WITHOUT
 }
 
-// Whether each byte of a text of page 1251 has a character. The loop has no way out, so that it looks at many bytes at a time.
-fn all_have(text: &[u8]) -> bool
-    ensures { result ≡ true → length text.now ≤ first_of (lacksIn (character_of 1) no_character) text.now }
+// The first byte of a text of page 1251 that has no character. Most texts have none, and `contains` looks at many bytes at a time.
+fn first_lacking(text: &[u8]) -> Option<usize>
+    ensures { result ≡ position (lacksIn (character_of 1) no_character) text.now }
 {
-    let mut all = true;
-    let mut i = 0;
-    while i < text.len() {
-        all = all & !lacks(WINDOWS, text[i]);
-        i += 1;
+    if !text.contains(&WITHOUT) {
+        return None;
     }
-    all
+    text.iter().position(|byte| lacks(*byte))
 }
 
-// The index of the first byte that has no character; the length, where each has one.
-pub fn first_without(coding: u32, text: &[u8]) -> usize
-    ensures { result ≡ first_of (lacksIn (character_of coding) no_character) text.now }
-{
-    if coding == WINDOWS {
-        if all_have(text) {
-            return text.len();
+#[derive(Clone, Copy)]
+pub struct Characters {
+    coding: Coding,
+    table: &'static [u16; BYTES],
+    ghost is: { table.now ≡ table_of (number_of coding) },
+}
+
+impl Way for Characters {
+    type Given = u8;
+
+    type Turned = u16;
+
+    ghost answer = { λ c text room. written_of (to_utf16 c text room) };
+
+    ghost left = { λ c text old. lent the_turned (to_utf16 c text (length old)) old };
+
+    ghost number = { λ w. number_of w.coding };
+
+    ghost lacks = { λ w. lacksIn (character_of (number_of w.coding)) no_character };
+
+    ghost turn = { λ w byte. read_in w.table.now byte };
+
+    fn of(coding: Coding) -> Characters {
+        Characters {
+            coding,
+            table: table_of(coding),
         }
     }
-    let mut i = 0;
-    while i < text.len() {
-        if lacks(coding, text[i]) {
-            return i;
+
+    fn first_without(&self, text: &[u8]) -> Option<usize> {
+        match self.coding {
+            Coding::Windows => first_lacking(text),
+            Coding::Dos | Coding::Koi8 => None,
         }
-        i += 1;
     }
-    i
-}
 
-// The character that the table has for a byte. The way back looks its guess up by it.
-pub fn character_in(table: &[u16; BYTES], byte: u8) -> u16
-    ensures { result ≡ read_in table.now byte }
-{
-    let i = byte as usize;
-    table[i]
-}
-
-// Puts the character of each byte.
-pub fn put(table: &[u16; BYTES], text: &[u8], units: &mut [u16])
-    requires { length text.now ≤ length units.old }
-    ensures { units.new ≡ sets units.old 0 (map (read_in table.now) text.now) }
-{
-    let mut i = 0;
-    while i < text.len() {
-        units[i] = character_in(table, text[i]);
-        i += 1;
+    fn turn(&self, byte: u8) -> u16 {
+        self.table[byte as usize]
     }
+
+    ghost laws = { turned_laws (λ w. number_of w.coding) character_of no_character (λ w byte. read_in w.table.now byte) (λ w. number_le w.coding)
+        (λ w. characters_same (number_of w.coding) w.table.now w.is) };
 }

@@ -9,6 +9,8 @@
 
 mod bytes;
 mod characters;
+mod coding;
 mod slots;
 mod tables;
 pub mod utf16;
+mod way;

@@ -1,6 +1,6 @@
 -- The checks on the carried bytes once more, by the values that stand in them: layout's lists are these lists of what is read.
 use Rattle.std.specs.Prelude.{Bool, not, ◌&&◌, List, [], ◌∷◌, ◌≡◌, refl, ℕ, eqb, leb, take, drop}
-use Rattle.layout.specs.Bytes.{Field, number, number_in, bytes_in, zeros, bits, bit}
+use Rattle.layout.specs.Bytes.{number, zeros, bits, bit}
 use Rattle.layout.specs.Fields.Descriptor
 use Rattle.layout.specs.Fields.Passport
 use Rattle.layout.specs.Shared.Carried.{state, label_coding, allowed, rest_checks, carried_checks}

@@ -1,4 +1,5 @@
 -- A record's header as code has it stands for layout's.
+use Rattle.fields.specs.References.{reference_by}
 use Rattle.fields.specs.declared.headers.Header as Code
 use Rattle.layout.specs.Reading.Records.{Header}
 
@@ -11,7 +12,7 @@ header_of h =
       code = h.code;
       in_group = h.in_group;
       group = h.group;
-      reference = record { byte20 = h.b20; byte21 = h.b21; byte22 = h.b22 };
+      reference = reference_by h.reference;
       generalisation = h.generalisation;
       word = h.word;
       subobjects = h.subobjects;

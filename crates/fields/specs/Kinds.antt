@@ -1,5 +1,4 @@
 -- The kind of an item as code has it, in the words of layout.
-use Rattle.std.specs.Prelude.{ℕ}
 use Rattle.fields.specs.declared.kinds.Kind.{Kind}
 use Rattle.fields.specs.declared.kinds.Kind.TheVariants as Is
 use Rattle.layout.specs.Shared.Types as Types

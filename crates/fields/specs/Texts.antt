@@ -1,6 +1,6 @@
 -- What is answered of a text field.
 use Rattle.std.specs.Prelude.{List, ℕ, length}
-use Rattle.fields.specs.declared.texts.TextAt.{TextAt}
+use Rattle.layout.specs.declared.TextAt.{TextAt}
 use Rattle.layout.specs.Shared.Texts.{text_of, tail_of, is_clean}
 
 -- "the text-field reading now answers the text before the first zero and whether the rest was clean" (02, 6)

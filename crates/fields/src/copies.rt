@@ -7,9 +7,5 @@ pub fn put_bytes(xs: &[u8], at: usize, n: usize, out: &mut [u8], w: usize)
     requires { (at + n ≤ length xs.now) × (w + n ≤ length out.old) }
     ensures { out.new ≡ sets out.old w (take n (drop at xs.now)) }
 {
-    let mut i: usize = 0;
-    while i < n {
-        out[w + i] = xs[at + i];
-        i += 1;
-    }
+    out[w..w + n].copy_from_slice(&xs[at..at + n]);
 }

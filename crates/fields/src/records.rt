@@ -1,5 +1,6 @@
 // Numbers of a record's row that its header does not have as they stand. (01, Record; 02, request 2)
 ghost use Rattle.std.specs.Prelude.{◌≡◌};
+ghost use Rattle.fields.specs.References.{reference_by};
 ghost use Rattle.layout.specs.Shared.Mark.{first_count, mark_of};
 ghost use Rattle.layout.specs.Shared.Row.{reference_number, reference_of};
 
@@ -25,27 +26,30 @@ pub fn mark_of(points: u16) -> u8
     0
 }
 
-// The three reference bytes as one number, as the table has them.
-pub fn reference_number(b20: u8, b21: u8, b22: u8) -> u32
-    ensures { result ≡ reference_number (record { byte20 = b20; byte21 = b21; byte22 = b22 }) }
-{
-    (b20 as u32) + 256 * (b21 as u32) + 65536 * (b22 as u32)
-}
-
+// The bytes 20 to 22 of a record.
 #[derive(Clone, Copy)]
 pub struct ReferenceBytes {
-    pub b20: u8,
-    pub b21: u8,
-    pub b22: u8,
+    pub byte20: u8,
+    pub byte21: u8,
+    pub byte22: u8,
 }
 
-// The other way: the three reference bytes of a number of the table.
-pub fn reference_bytes(number: u64) -> ReferenceBytes
-    ensures { record { byte20 = result.b20; byte21 = result.b21; byte22 = result.b22 } ≡ reference_of number }
-{
-    ReferenceBytes {
-        b20: (number % 256) as u8,
-        b21: (number / 256 % 256) as u8,
-        b22: (number / 65536 % 256) as u8,
+impl ReferenceBytes {
+    // The three bytes as one number, as the table has them.
+    pub fn number(self) -> u32
+        ensures { result ≡ reference_number (reference_by self) }
+    {
+        (self.byte20 as u32) + 256 * (self.byte21 as u32) + 65536 * (self.byte22 as u32)
+    }
+
+    // The other way: the three bytes of a number of the table. A number of more than three bytes loses its upper ones, so that it is no `From`.
+    pub fn of(number: u64) -> ReferenceBytes
+        ensures { reference_by result ≡ reference_of number }
+    {
+        ReferenceBytes {
+            byte20: (number % 256) as u8,
+            byte21: (number / 256 % 256) as u8,
+            byte22: (number / 65536 % 256) as u8,
+        }
     }
 }

@@ -19,11 +19,11 @@ pub fn unit_bytes(r: &[u8]) -> UnitBytes
     requires { (Passport.rest).width ≤ length r.now }
     ensures { result ≡ unit_bytes r.now }
 {
-    let flags = numbers::u8_at(r, rest::FLAGS);
-    let resolution = numbers::u32_at(r, rest::RESOLUTION);
-    let accuracy = numbers::u8_at(r, rest::ACCURACY);
-    let unit = numbers::u8_at(r, rest::UNIT);
-    let height_unit = numbers::u8_at(r, rest::HEIGHT_UNIT);
+    let flags = numbers::at::<u8>(r, rest::FLAGS);
+    let resolution = numbers::at::<u32>(r, rest::RESOLUTION);
+    let accuracy = numbers::at::<u8>(r, rest::ACCURACY);
+    let unit = numbers::at::<u8>(r, rest::UNIT);
+    let height_unit = numbers::at::<u8>(r, rest::HEIGHT_UNIT);
     UnitBytes {
         flags,
         resolution,

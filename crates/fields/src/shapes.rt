@@ -1,9 +1,10 @@
 // What a record's reference bytes say of its parts: element size, floating, three dimensions, text in the metric.
 ghost use Rattle.std.specs.Prelude.{true, false, ◌≡◌, ◌*◌, ◌≤◌, ◌<◌, ◌^◌};
+ghost use Rattle.fields.specs.References.{reference_by};
 ghost use Rattle.fields.specs.Shapes.{shape_of, dimensions, point_of, loop_of};
 ghost use Rattle.layout.specs.Shared.Row.{reference_of};
 
-use crate::records;
+use crate::records::ReferenceBytes;
 
 #[derive(Clone, Copy)]
 pub struct Shape {
@@ -13,14 +14,14 @@ pub struct Shape {
     pub text: bool,
 }
 
-pub fn shape_of(b20: u8, b21: u8, b22: u8) -> Shape
-    ensures { result ≡ shape_of (record { byte20 = b20; byte21 = b21; byte22 = b22 }) }
+pub fn shape_of(b: ReferenceBytes) -> Shape
+    ensures { result ≡ shape_of (reference_by b) }
 {
     Shape {
-        size: b21 / 4 % 2 == 1,
-        float: b22 / 4 % 2 == 1,
-        three: b22 / 2 % 2 == 1,
-        text: b22 / 8 % 2 == 1,
+        size: b.byte21 / 4 % 2 == 1,
+        float: b.byte22 / 4 % 2 == 1,
+        three: b.byte22 / 2 % 2 == 1,
+        text: b.byte22 / 8 % 2 == 1,
     }
 }
 
@@ -28,8 +29,7 @@ pub fn shape_of(b20: u8, b21: u8, b22: u8) -> Shape
 pub fn shape_in(reference: u64) -> Shape
     ensures { result ≡ shape_of (reference_of reference) }
 {
-    let b = records::reference_bytes(reference);
-    shape_of(b.b20, b.b21, b.b22)
+    shape_of(ReferenceBytes::of(reference))
 }
 
 // How many elements so many points have.
@@ -60,7 +60,7 @@ pub fn point_size(s: Shape) -> usize
 }
 
 // The loop that serves a shape's elements: one for each width, and one for points of two elements of two bytes and a height of four, the one
-// kind of point whose elements are not all of one width.
+// kind of point whose elements are not all of one width. An enum and no closure, since reader and writer run loops of their own by the same choice.
 #[derive(Clone, Copy)]
 pub enum Loop {
     Two,
@@ -72,17 +72,10 @@ pub enum Loop {
 pub fn loop_of(s: Shape) -> Loop
     ensures { result ≡ loop_of s }
 {
-    if s.size {
-        if s.float {
-            return Loop::Eight;
-        }
-        return Loop::Four;
+    match (s.size, s.float, s.three) {
+        (true, true, _) => Loop::Eight,
+        (true, false, _) | (false, true, _) => Loop::Four,
+        (false, false, true) => Loop::Points,
+        (false, false, false) => Loop::Two,
     }
-    if s.float {
-        return Loop::Four;
-    }
-    if s.three {
-        return Loop::Points;
-    }
-    Loop::Two
 }

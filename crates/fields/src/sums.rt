@@ -25,20 +25,19 @@ fn few(s: &[u8]) -> u32
     ensures { (result ≡ total s.now) × (result ≤ 255 * length s.now) }
 {
     let mut sum: u32 = 0;
-    for i in 0..s.len() {
-        sum += s[i] as u32;
+    for byte in s {
+        sum += *byte as u32;
     }
     sum
 }
 
-// The sum of one block.
-fn block(s: &[u8], at: usize) -> u32
-    requires { at + 64 ≤ length s.now }
-    ensures { (result + total (drop (at + 64) s.now) ≡ total (drop at s.now)) × (result ≤ 255 * 64) }
+// The sum of one block: as `few` does it, with a length that the compiler knows, so that it sums by vectors.
+fn block(s: &[u8; BLOCK]) -> u32
+    ensures { (result ≡ total s.now) × (result ≤ 255 * 64) }
 {
     let mut sum: u32 = 0;
-    for i in 0..BLOCK {
-        sum += s[at + i] as u32;
+    for byte in s {
+        sum += *byte as u32;
     }
     sum
 }
@@ -48,24 +47,12 @@ fn piece(s: &[u8]) -> u32
     requires { length s.now ≤ 16777216 }
     ensures { (result ≡ total s.now) × (result ≤ 255 * length s.now) }
 {
+    let (blocks, left) = s.as_chunks::<BLOCK>();
     let mut sum: u32 = 0;
-    let mut at: usize = 0;
-    while BLOCK <= s.len() - at {
-        sum += block(s, at);
-        at += BLOCK;
+    for bytes in blocks {
+        sum += block(bytes);
     }
-    sum + few(numbers::rest(s, at))
-}
-
-// How long the next piece is, of so many bytes that are left.
-fn piece_length(left: usize) -> usize
-    requires { 0 < left }
-    ensures { (result ≤ left) × (result ≤ 16777216) × (0 < result) }
-{
-    if left < PIECE {
-        return left;
-    }
-    PIECE
+    sum + few(left)
 }
 
 // The sum of all bytes, piece by piece.
@@ -74,11 +61,8 @@ pub fn sum_of(s: &[u8]) -> u64
     ensures { (result ≡ total s.now) × (result ≤ 255 * length s.now) }
 {
     let mut sum: u64 = 0;
-    let mut at: usize = 0;
-    while at < s.len() {
-        let n = piece_length(s.len() - at);
-        sum += piece(numbers::part(s, at, n)) as u64;
-        at += n;
+    for bytes in s.chunks(PIECE) {
+        sum += piece(bytes) as u64;
     }
     sum
 }

@@ -6,32 +6,19 @@ ghost use Rattle.layout.specs.Shared.Texts.{text_of, is_text_field, padded};
 ghost use Rattle.std.proofs.lemmas.List.Edits.{sets};
 
 use crate::{copies, numbers};
+use layout::TextAt;
 
 // How many bytes stand before the first zero.
 pub fn text_length(s: &[u8]) -> usize
     ensures { result ≡ length (text_of s.now) }
 {
-    let mut i = 0;
-    while i < s.len() {
-        if s[i] == 0 {
-            return i;
-        }
-        i += 1;
-    }
-    i
+    s.iter().position(|byte| *byte == 0).unwrap_or(s.len())
 }
 
 pub fn all_zero(s: &[u8]) -> bool
     ensures { result ≡ zeros s.now }
 {
-    let mut i = 0;
-    while i < s.len() {
-        if s[i] != 0 {
-            return false;
-        }
-        i += 1;
-    }
-    true
+    s.iter().all(|byte| *byte == 0)
 }
 
 // The field has a zero.
@@ -42,12 +29,6 @@ pub fn is_text_field(s: &[u8]) -> bool
 }
 
 // How long the text of a field is, and whether its tail is clean.
-#[derive(Clone, Copy)]
-pub struct TextAt {
-    pub length: usize,
-    pub clean: bool,
-}
-
 pub fn text_at(s: &[u8]) -> TextAt
     ensures { result ≡ text_at s.now }
 {
@@ -61,11 +42,7 @@ pub fn put_zeros(out: &mut [u8], w: usize, n: usize)
     requires { w + n ≤ length out.old }
     ensures { out.new ≡ sets out.old w (replicate n 0) }
 {
-    let mut i: usize = 0;
-    while i < n {
-        out[w + i] = 0;
-        i += 1;
-    }
+    out[w..w + n].fill(0);
 }
 
 // Writes a text into a field of so many bytes: the text, a zero, and zeros to the end of the field.

@@ -22,6 +22,7 @@ fn good_count(kind: BlockKind, last: bool, count: usize) -> bool
 }
 
 // "unused entries are zero": the bytes that so many entries of the block at a place leave.
+#[tactic(auto, using(crate::proofs::Laws::Blocks::room_at))]
 fn unused_zero(index: &[u8], kind: BlockKind, at: usize, count: usize) -> bool
     requires { (at + Block.size ≤ length index.now) × (count ≤ Block.full kind) }
     ensures { result ≡ zeros (take ((Block.entries).width - Field.size kind * count)
@@ -44,14 +45,14 @@ pub fn good_block(index: &[u8], kind: BlockKind, at: usize, number: usize) -> bo
     if left < block::SIZE {
         return false;
     }
-    let count = numbers::u16_at(index, at + block::COUNT) as usize;
+    let count = numbers::at::<u16>(index, at + block::COUNT) as usize;
     if !good_count(kind, left <= block::SIZE, count) {
         return false;
     }
-    let numbered = (numbers::u16_at(index, at + block::NUMBER) as usize) == number;
+    let numbered = (numbers::at::<u16>(index, at + block::NUMBER) as usize) == number;
     let filled = unused_zero(index, kind, at, count);
-    let ended = numbers::u16_at(index, at + block::ENDING) == kinds::ending_is(kind);
+    let ended = numbers::at::<u16>(index, at + block::ENDING) == kinds::ending_is(kind);
     let sum = sums::sum_of(numbers::part(index, at, block::SUM)) % block::MODULUS;
-    let summed = (numbers::u16_at(index, at + block::SUM) as u64) == sum;
+    let summed = (numbers::at::<u16>(index, at + block::SUM) as u64) == sum;
     ((numbered & filled) & ended) & summed
 }

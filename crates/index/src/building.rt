@@ -19,13 +19,13 @@ fn put_entry(e: Entry, out: &mut [u8], w: usize)
     requires { w + Field.size New ≤ length out.old }
     ensures { out.new ≡ sets out.old w (encode_entry New e) }
 {
-    numbers::put_u32(out, w + block::ENTRY_CODE, e.code);
-    numbers::put_u32(
+    numbers::put::<u32>(out, w + block::ENTRY_CODE, e.code);
+    numbers::put::<u32>(
         out,
         w + block::ENTRY_PLACE,
         (e.place % block::PLACES) as u32,
     );
-    numbers::put_u8(out, w + block::ENTRY_LOCALISATION, e.localisation);
+    numbers::put::<u8>(out, w + block::ENTRY_LOCALISATION, e.localisation);
 }
 
 // The entries of n records, of which the first starts at a place. Tells where the next record starts.
@@ -36,12 +36,10 @@ fn put_entries(s: &[u8], first: usize, n: usize, out: &mut [u8], w: usize) -> us
 {
     let mut at = first;
     let mut to = w;
-    let mut i: usize = 0;
-    while i < n {
+    for _ in 0..n {
         put_entry(entry_of(s, at), out, to);
         at = next(s, at);
         to += block::ENTRY_SIZE;
-        i += 1;
     }
     at
 }
@@ -52,8 +50,8 @@ fn put_unsummed(s: &[u8], first: usize, n: usize, number: usize, out: &mut [u8],
     ensures next { result ≡ place_after n first s.now }
     ensures written { out.new ≡ sets out.old w (encode_unsummed New number (hopped n first s.now)) }
 {
-    numbers::put_u16(out, w + block::NUMBER, number as u16);
-    numbers::put_u16(out, w + block::COUNT, n as u16);
+    numbers::put::<u16>(out, w + block::NUMBER, number as u16);
+    numbers::put::<u16>(out, w + block::COUNT, n as u16);
     let after = put_entries(s, first, n, out, w + block::ENTRIES);
     let used = block::ENTRY_SIZE * n;
     texts::put_zeros(
@@ -61,7 +59,7 @@ fn put_unsummed(s: &[u8], first: usize, n: usize, number: usize, out: &mut [u8],
         w + (block::ENTRIES + used),
         block::ENTRIES_WIDTH - used,
     );
-    numbers::put_u16(out, w + block::ENDING, block::ENDING_IS);
+    numbers::put::<u16>(out, w + block::ENDING, block::ENDING_IS);
     after
 }
 
@@ -73,7 +71,7 @@ fn put_block(s: &[u8], first: usize, n: usize, number: usize, out: &mut [u8], w:
 {
     let after = put_unsummed(s, first, n, number, out, w);
     let sum = sums::sum_of(&out[w..w + block::SUM]) % block::MODULUS;
-    numbers::put_u16(out, w + block::SUM, sum as u16);
+    numbers::put::<u16>(out, w + block::SUM, sum as u16);
     after
 }
 
@@ -86,6 +84,7 @@ pub fn put_blocks(s: &[u8], count: usize, out: &mut [u8])
     let mut at: usize = sheet::START;
     let mut left = count;
     let mut number: usize = 0;
+    // What is left is counted down, and the last block is not full: a `for` over the blocks would have to be told their number, and is no plainer.
     while block::FULL < left {
         at = put_block(s, at, block::FULL, number, out, block::SIZE * number);
         left -= block::FULL;

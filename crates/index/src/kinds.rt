@@ -8,6 +8,8 @@ ghost use Rattle.layout.specs.Index.Reading.{file_kind};
 use fields::numbers;
 use layout::{BlockKind, block};
 
+// The kinds are a type of `layout`, so what they have are functions here: a trait with one impl, for methods, would be no plainer.
+
 // How many entries a full block has.
 pub fn full(kind: BlockKind) -> usize
     ensures { result ≡ Block.full kind }
@@ -45,7 +47,7 @@ pub fn file_kind(index: &[u8]) -> BlockKind
     if index.len() < block::SIZE {
         return BlockKind::Old;
     }
-    if numbers::u16_at(index, block::ENDING) == block::ENDING_IS {
+    if numbers::at::<u16>(index, block::ENDING) == block::ENDING_IS {
         return BlockKind::New;
     }
     BlockKind::Old

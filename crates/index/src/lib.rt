@@ -16,4 +16,5 @@ pub mod files;
 mod hits;
 mod hops;
 mod kinds;
+mod listed;
 pub mod sheets;

@@ -8,12 +8,12 @@ use Rattle.layout.specs.Bytes.{All}
 use Rattle.layout.specs.Computing.{computing}
 use Rattle.layout.specs.Reading.Sheets.{sum_of}
 use Rattle.layout.specs.Refusals.{SHORT, SUM, TEXT, TOO_NEW, ASK}
-use Rattle.layout.specs.Shared.Visibility.{visibility}
+use Rattle.layout.specs.Shared.Visibility.{visibility, scales}
 use Rattle.layout.specs.Sheet.{Head, Table}
 use Rattle.layout.specs.Walk.{Answer, given, refused}
 use Rattle.layout.specs.Writing.Tables.{table}
-use Rattle.layout.specs.declared.Visibility.{Visibility}
-use Rattle.layout.specs.declared.Visibility.TheVariants.{Unset, Bounds}
+use Rattle.layout.specs.declared.Scales.{Scales}
+use Rattle.std.specs.Prelude.{Option, Some, None}
 use Rattle.laws.proofs.Samples.{with, sheet, sheet_e, sheet_p, sheet_q, sheet_m, head_of}
 
 pub data Case : Type 0 where
@@ -24,7 +24,7 @@ pub data Case : Type 0 where
   -- writing a head and a table at a setting gives bytes, or a refusal
   writes : ℕ → Head → Table → Answer (List ℕ) → Case
   -- a generalisation byte's visibility, in a sheet of sheet E's head
-  shows : ℕ → Visibility → Case
+  shows : ℕ → Option Scales → Case
 
 -- room enough for each of these sheets
 abbrev plenty : ℕ
@@ -59,8 +59,8 @@ cases =
     ∷ writes 2017 (head_of (replicate 31 0x41)) (table [] [] []) (given (with 28 (replicate 31 0x41) (sheet 2745 0 [])))
     ∷ writes 2017 (head_of (replicate 32 0x41)) (table [] [] []) (refused TEXT 28 0)
     -- "Visibility 0x24: 10000 to 10000000 by table 4; 0xFF: unset."
-    ∷ shows 0x24 (Bounds 10000 10000000)
-    ∷ shows 0xFF Unset
+    ∷ shows 0x24 (Some (scales 10000 10000000))
+    ∷ shows 0xFF None
     ∷ []
 
 pub marked : All Holds cases

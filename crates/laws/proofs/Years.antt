@@ -10,7 +10,7 @@ use native.Mathlib.Omega.{arith}
 use Rattle.layout.specs.Answers.Calls.{and_then, reading, Rooms, in_rooms, unfolded, roomy, record_of, asked, in_room, written}
 use Rattle.layout.specs.Layout.Encode.{encode_record, encode}
 use Rattle.layout.specs.Reading.Sheets.{start, sheet_walk}
-use Rattle.layout.specs.Refusals.{TOO_NEW, ROOM, ASK}
+use Rattle.layout.specs.Refusals.{TOO_NEW, ROOM, ASK, refusal_number}
 use Rattle.layout.specs.Sheet.{Record, Head, Sheet, Table}
 use Rattle.layout.specs.Walk.{Answer, given, refused, answer, up_to, met, Late, none, late, first_late, or_too_new}
 use Rattle.layout.specs.Writing.Sheets.{table_walk}
@@ -20,6 +20,7 @@ use Rattle.laws.proofs.Years.Own.{own_newest, own_never}
 use Rattle.laws.proofs.Years.Reading.{own_sheet}
 use Rattle.laws.proofs.Years.Walks.{walk_years}
 use Rattle.laws.proofs.Years.Writing.{own_table}
+use Rattle.layout.specs.declared.refusals.Reason.{Reason}
 pub mod Walks
 pub mod Own
 pub mod Reading
@@ -91,8 +92,8 @@ at_2017 s place year e = own_never (sheet_walk s) (own_sheet s) place year e
 never_given : {A : Type 0} (a : A) (p z : ℕ) → ¬ (given a ≡ refused TOO_NEW p z)
 never_given a p z e = let q : ◌≡◌ {A = ℕ} 0 1 = cc in omega arith
 
-never_other : {A : Type 0} (n k y : ℕ) → ¬ (n ≡ TOO_NEW) → (p z : ℕ) → ¬ (◌≡◌ {A = Answer A} (refused n k y) (refused TOO_NEW p z))
-never_other n k y other p z e = other cc
+never_other : {A : Type 0} (n : Reason) (k y : ℕ) → ¬ (refusal_number n ≡ refusal_number TOO_NEW) → (p z : ℕ) → ¬ (◌≡◌ {A = Answer A} (refused n k y) (refused TOO_NEW p z))
+never_other n k y other p z e = let is : n ≡ TOO_NEW = cc in other (ap refusal_number is)
 
 never_cond : {A : Type 0} (b : Bool) (a c : Answer A) (p z : ℕ)
     → ¬ (a ≡ refused TOO_NEW p z) → ¬ (c ≡ refused TOO_NEW p z) → ¬ (cond b a c ≡ refused TOO_NEW p z)

@@ -1,7 +1,7 @@
 -- The first record with a wanted code, and the frame of the sheet, without reading the sheet. (02, request 5: "Give the first record with a
 -- wanted code by hopping from header to header, stopping at the first hit or after the counted records, with the number of headers looked at in
 -- the answer.") No setting is asked for.
-use Rattle.std.specs.Prelude.{ℕ, zero, suc, ◌+◌, true, false, cond, List, [], ◌∷◌, ◌++◌, eqb, leb, length, drop}
+use Rattle.std.specs.Prelude.{ℕ, zero, suc, ◌+◌, cond, Option, Some, None, List, [], ◌∷◌, ◌++◌, eqb, leb, length, drop}
 use Rattle.layout.specs.Bytes.{field, number_in, bytes_in}
 use Rattle.layout.specs.Fields.Descriptor
 use Rattle.layout.specs.Fields.Header as Field
@@ -12,16 +12,27 @@ use Rattle.layout.specs.Reading.Sheets.{start, size_checks, fixed}
 use Rattle.layout.specs.Refusals.{NOT_SXF}
 use Rattle.layout.specs.Sheet.{Record, Head}
 use Rattle.layout.specs.Walk.{Walk, Answer, Check, checks, ◌>>=◌, ◌>>◌, ends, stops, meets, answer, always}
+use Rattle.layout.specs.declared.Hit.{Hit}
 use Rattle.layout.specs.declared.Hop.{Hop}
 
 -- A hit: the record's number from 0, its place and its total length. seen is how many headers were looked at before this one, and so the record's
 -- number. "That number is the hit's number plus one, or the record count if there is none."
 abbrev pub hit : ℕ → ℕ → ℕ → Hop
-hit seen place total = record { found = true; «record» = seen; place = place; total = total; looked = seen + 1 }
+hit seen place total = record { hit = Some (record { «record» = seen; place = place; total = total }); looked = seen + 1 }
 
--- No hit: number, place and total length are 0, and every counted header was looked at.
+-- No hit: every counted header was looked at.
 abbrev pub no_hit : ℕ → Hop
-no_hit seen = record { found = false; «record» = 0; place = 0; total = 0; looked = seen }
+no_hit seen = record { hit = None; looked = seen }
+
+-- "That number is the hit's number plus one, or the record count if there is none."
+abbrev pub looked_for : Option Hit → ℕ → ℕ
+looked_for (Some x) count = x.«record» + 1
+looked_for None count = count
+
+-- how many of so many headers that were looked at come before the hit: all, if there is none
+abbrev pub misses : Option Hit → ℕ → ℕ
+misses (Some x) looked = x.«record»
+misses None looked = looked
 
 -- What is asked of a header before its code is looked at; xs are the bytes from the record's start on. "Refusals: 1, 2, 3 and 10 as for sheet
 -- size, identifiers and total lengths, header by header; contents and sum aren't checked."
@@ -71,7 +82,7 @@ frame_code h = number_in (Passport.in_rest Passport.frame) h.rest
 -- what f gives for what a walk ends in, and nothing where it stops
 abbrev pub past : {A : Type 0} → Walk A → (A → List ℕ) → List ℕ
 past (ends a) f = f a
-past (stops number place) f = []
+past (stops reason place) f = []
 past (meets place year w) f = past w f
 
 -- "On other bytes it says only what the headers passed so far say." The headers passed: the places of those that are looked at, in order, up to

@@ -2,24 +2,25 @@
 -- The writer's walk over a record table is of the same kind.
 use Rattle.std.specs.Prelude.{ℕ, zero, suc, ◌+◌, Bool, true, cond, List, [], ◌∷◌, ◌≡◌, leb, length, drop}
 use Rattle.layout.specs.Refusals
+use Rattle.layout.specs.declared.refusals.Reason.{Reason}
 
 pub data Walk (A : Type 0) : Type 0 where
   -- a reading
   ends : A → Walk A
-  -- a refusal of its own: number, place
-  stops : ℕ → ℕ → Walk A
+  -- a refusal of its own: reason, place
+  stops : Reason → ℕ → Walk A
   -- comes upon a feature: place, year; then goes on
   meets : ℕ → ℕ → Walk A → Walk A
 
 -- "A refusal returns number, place and year (0 except for TOO NEW)"
 pub data Answer (A : Type 0) : Type 0 where
   given : A → Answer A
-  refused : ℕ → ℕ → ℕ → Answer A
+  refused : Reason → ℕ → ℕ → Answer A
 
 -- A setting only decides how far a walk is followed: al says which years are allowed.
 abbrev pub answer : {A : Type 0} → (ℕ → Bool) → Walk A → Answer A
 answer al (ends a) = given a
-answer al (stops number place) = refused number place 0
+answer al (stops reason place) = refused reason place 0
 answer al (meets place year w) = cond (al year) (answer al w) (refused Refusals.TOO_NEW place year)
 
 -- the years up to a setting
@@ -33,7 +34,7 @@ always year = true
 -- how a walk comes out where every year is allowed
 abbrev pub outcome : {A : Type 0} → Walk A → Walk A
 outcome (ends a) = ends a
-outcome (stops number place) = stops number place
+outcome (stops reason place) = stops reason place
 outcome (meets place year w) = outcome w
 
 -- a feature that was met
@@ -44,7 +45,7 @@ pub record Met : Type 0 where
 -- the features that a walk comes upon before its own end, in order
 abbrev pub met : {A : Type 0} → Walk A → List Met
 met (ends a) = []
-met (stops number place) = []
+met (stops reason place) = []
 met (meets place year w) = record { place = place; year = year } ∷ met w
 
 -- the first of these features that is later than a setting, if there is one: place, year
@@ -67,7 +68,7 @@ infixl 20 ◌>>=◌
 infixl 20 ◌>>◌
 abbrev pub ◌>>=◌ : {A B : Type 0} → Walk A → (A → Walk B) → Walk B
 ◌>>=◌ (ends a) f = f a
-◌>>=◌ (stops number place) f = stops number place
+◌>>=◌ (stops reason place) f = stops reason place
 ◌>>=◌ (meets place year w) f = meets place year (w >>= f)
 
 abbrev pub ◌>>◌ : {A : Type 0} → Walk (Unit {0}) → Walk A → Walk A
@@ -76,13 +77,13 @@ w >> v = w >>= λ _. v
 -- Checks are data. A test must hold, or this refusal is given at that place; a feature is met, of a year, at a place.
 -- Places count from the start of the piece that is checked.
 pub data Check : Type 0 where
-  must : Bool → ℕ → ℕ → Check
+  must : Bool → Reason → ℕ → Check
   dated : Bool → ℕ → ℕ → Check
 
 -- the checks of a piece that starts at a place, one after another
 abbrev pub checks : ℕ → List Check → Walk (Unit {0})
 checks start [] = ends tt
-checks start (must test number place ∷ cs) = cond test (checks start cs) (stops number (start + place))
+checks start (must test reason place ∷ cs) = cond test (checks start cs) (stops reason (start + place))
 checks start (dated test year place ∷ cs) = cond test (meets (start + place) year (checks start cs)) (checks start cs)
 
 -- A piece that was read: its value, and how many bytes it took.
@@ -129,19 +130,19 @@ abbrev pub fill : {A : Type 0} → Reader A → ℕ → List ℕ → Walk (List 
 fill one place xs = filling one (length xs) place xs
 
 -- one piece that takes all of the bytes; bytes left over are refused at the first of them
-abbrev pub whole : {A : Type 0} → ℕ → Reader A → ℕ → List ℕ → Walk A
-whole refusal one place xs = do
+abbrev pub whole : {A : Type 0} → Reason → Reader A → ℕ → List ℕ → Walk A
+whole reason one place xs = do
   a ← one place xs
-  checks (place + a.size) (must (leb (length xs) a.size) refusal 0 ∷ [])
+  checks (place + a.size) (must (leb (length xs) a.size) reason 0 ∷ [])
   ends a.value
 
 -- what a list of checks asks, and the years of what it comes upon
 abbrev pub Holds : List Check → Type 0
 Holds [] = Unit {0}
-Holds (must test number place ∷ cs) = (test ≡ true) × Holds cs
+Holds (must test reason place ∷ cs) = (test ≡ true) × Holds cs
 Holds (dated test year place ∷ cs) = Holds cs
 
 abbrev pub years_of : List Check → List ℕ
 years_of [] = []
-years_of (must test number place ∷ cs) = years_of cs
+years_of (must test reason place ∷ cs) = years_of cs
 years_of (dated test year place ∷ cs) = cond test (year ∷ years_of cs) (years_of cs)

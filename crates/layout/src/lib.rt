@@ -1,5 +1,6 @@
 // What the library answers: the types of its answers, and beside them (specs/) the definitions of documents 01 and 02 that say
-// which answer is given when. Nothing here runs, and nothing is relied on. The contracts of the crates above say what they mean by these definitions.
+// which answer is given when. Only the number and the name of a refusal are code here, and nothing is relied on. The contracts of the crates
+// above say what they mean by these definitions.
 #![tactic(auto)]
 
 pub mod block;
@@ -20,11 +21,14 @@ pub mod structs;
 pub mod subobject;
 pub mod years;
 
-// One named refusal: the documents' number, the place (a byte of the sheet or of the index file, or an index of the table or the text), and
-// the year, which is 0 except for TOO NEW.
-#[derive(Clone, Copy)]
+use refusals::Reason;
+
+// One named refusal: the reason, the place (a byte of the sheet or of the index file, or an index of the table or the text), and the year, which
+// is 0 except for TOO NEW. What can be refused answers a Result with it. The year is a field of its own, since C and the
+// theorems have all three.
+#[derive(Clone, Copy, PartialEq, Eq)]
 pub struct Refusal {
-    pub number: u32,
+    pub reason: Reason,
     pub place: usize,
     pub year: u32,
 }
@@ -37,13 +41,6 @@ pub struct Sizes {
     pub numbers: usize,
     pub elements: usize,
     pub bytes: usize,
-}
-
-// What checking or unfolding a sheet answers.
-#[derive(Clone, Copy)]
-pub enum Checked {
-    Accepted(Sizes),
-    Refused(Refusal),
 }
 
 // One record: where it starts, its total length, its nine numbers, and its first part's points.
@@ -59,36 +56,27 @@ pub struct RecordAt {
     pub word: u32,
     pub parts: u32,
     pub items: usize,
+    // a number and no bool, as the row and `sxf_record` have it
     pub mark: u8,
     pub points: u32,
 }
 
-// What asking for a record by its number answers.
+// How long the text of a field is, and whether the field is clean: it has only zeros after its text.
 #[derive(Clone, Copy)]
-pub enum Found {
-    Record(RecordAt),
-    Refused(Refusal),
+pub struct TextAt {
+    pub length: usize,
+    pub clean: bool,
 }
 
-// The head of a sheet, as the writer takes it: the lengths of the four texts, which start at 16, 28, 64 and 408, and the scale. The
-// carried bytes are the 304 from 96 on and the four at 444. A text field is clean if it has only zeros after its text.
+// The head of a sheet, as the writer takes it: the four texts, which start at 16, 28, 64 and 408, and the scale. The carried bytes are the 304
+// from 96 on and the four at 444.
 #[derive(Clone, Copy)]
 pub struct HeadAt {
-    pub date: usize,
-    pub designation: usize,
+    pub date: TextAt,
+    pub designation: TextAt,
     pub scale: u32,
-    pub title: usize,
-    pub designation2: usize,
-    pub date_clean: bool,
-    pub designation_clean: bool,
-    pub title_clean: bool,
-    pub designation2_clean: bool,
-}
-
-#[derive(Clone, Copy)]
-pub enum Headed {
-    Head(HeadAt),
-    Refused(Refusal),
+    pub title: TextAt,
+    pub designation2: TextAt,
 }
 
 // What a code index has of a record: its class code, its place in the sheet, its localisation.
@@ -113,36 +101,19 @@ pub struct IndexSizes {
     pub blocks: usize,
 }
 
-// What checking an index answers.
+// A record that hopping finds: its number from 0, where it starts, and its total length.
 #[derive(Clone, Copy)]
-pub enum Indexed {
-    Accepted(IndexSizes),
-    Refused(Refusal),
-}
-
-// What hopping from header to header finds: whether there is a record of the code that is asked for; its number from 0, where it starts and its
-// total length, which are 0 where there is none; and how many headers were looked at.
-#[derive(Clone, Copy)]
-pub struct Hop {
-    pub found: bool,
+pub struct Hit {
     pub record: u32,
     pub place: usize,
     pub total: usize,
+}
+
+// What hopping from header to header finds: the first record of the code that is asked for, if there is one; and how many headers were looked at.
+#[derive(Clone, Copy)]
+pub struct Hop {
+    pub hit: Option<Hit>,
     pub looked: u32,
-}
-
-#[derive(Clone, Copy)]
-pub enum Hopped {
-    Hop(Hop),
-    Refused(Refusal),
-}
-
-// What each call answers that writes one slice (a sheet, a text that is turned, an index, a selection): how much of it, from its start, was
-// written.
-#[derive(Clone, Copy)]
-pub enum Written {
-    Length(usize),
-    Refused(Refusal),
 }
 
 // The unit of a sheet's coordinates; a real sheet of unknown unit keeps the byte that says so.
@@ -153,12 +124,6 @@ pub enum SheetUnit {
     Radians,
     Degrees,
     Unknown(u8),
-}
-
-#[derive(Clone, Copy)]
-pub enum UnitAnswer {
-    Unit(SheetUnit),
-    Refused(Refusal),
 }
 
 // The unit of a sheet's heights, which have a byte of their own; one that names no unit is kept.
@@ -185,19 +150,11 @@ pub enum Stored {
     Double(u64),
 }
 
-// What asking for the element that stored bits are answers.
-#[derive(Clone, Copy)]
-pub enum ElementAnswer {
-    Element(Stored),
-    Refused(Refusal),
-}
-
 // An element in the unit of the sheet that it stands in. A height has its own unit, and never that of the plane.
 #[derive(Clone, Copy)]
 pub enum Measured {
     Plane(SheetUnit, Stored),
     Height(HeightUnit, Stored),
-    Refused(Refusal),
 }
 
 // What an element stands for. A floating element that is no number (NaN) keeps its bits.
@@ -209,45 +166,31 @@ pub enum Number {
     NotNumber(u64),
 }
 
-// The eight plane corners as stored: south-west, north-west, north-east, south-east.
+// The eight plane corners, as stored or as doubles: south-west, north-west, north-east, south-east.
 #[derive(Clone, Copy)]
-pub struct CornerBits {
-    pub sw_x: u64,
-    pub sw_y: u64,
-    pub nw_x: u64,
-    pub nw_y: u64,
-    pub ne_x: u64,
-    pub ne_y: u64,
-    pub se_x: u64,
-    pub se_y: u64,
+pub struct PlaneCorners<T> {
+    pub sw_x: T,
+    pub sw_y: T,
+    pub nw_x: T,
+    pub nw_y: T,
+    pub ne_x: T,
+    pub ne_y: T,
+    pub se_x: T,
+    pub se_y: T,
 }
 
-// The eight plane corners as doubles.
-#[derive(Clone, Copy)]
-pub struct PlaneCorners {
-    pub sw_x: f64,
-    pub sw_y: f64,
-    pub nw_x: f64,
-    pub nw_y: f64,
-    pub ne_x: f64,
-    pub ne_y: f64,
-    pub se_x: f64,
-    pub se_y: f64,
-}
-
+// The corners of a sheet: doubles, or where at least one is a NaN, the place of the first that is one, and all eight as stored.
 #[derive(Clone, Copy)]
 pub enum Corners {
-    Doubles(PlaneCorners),
-    // At least one corner is a NaN: the place of the first, and all eight as stored.
-    Bits(usize, CornerBits),
-    Refused(Refusal),
+    Doubles(PlaneCorners<f64>),
+    Bits(usize, PlaneCorners<u64>),
 }
 
-// The visibility of a generalisation byte: none set, or the denominators of its lower and upper bound.
+// The scales between which a record is shown, by their denominators.
 #[derive(Clone, Copy)]
-pub enum Visibility {
-    Unset,
-    Bounds(u32, u32),
+pub struct Scales {
+    pub lower: u32,
+    pub upper: u32,
 }
 
 // whole × 10 ^ power
@@ -265,5 +208,4 @@ pub enum SemanticValue {
     NotNumber(u64),
     // The item is a text: its type.
     Other(u8),
-    Refused(Refusal),
 }

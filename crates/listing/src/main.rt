@@ -6,102 +6,79 @@
 // that error.
 #![tactic(auto)]
 
-ghost use Rattle.std.specs.Prelude.{◌≤◌, length, IfOk};
-
-use layout::refusals::TOO_LONG;
-use layout::{Checked, Found, RecordAt, Refusal};
+use layout::refusals::Reason;
+use layout::{RecordAt, Refusal};
+use reading::records::record_at;
 use reading::setting::Setting;
-use std::io;
+use reading::sheets::check;
 use std::io::Read;
+use std::{fmt, io};
 
-fn number(rt: &impl Print, n: u64) -> io::Result<()> {
-    print!(rt; " {n}")
+// How many bytes a sheet may have. The buffer has room for these and does not grow.
+const MOST: usize = 65536;
+
+// A refusal: its number, place and year.
+#[derive(Clone, Copy)]
+struct Refused(Refusal);
+
+impl fmt::Display for Refused {
+    fn fmt<W: fmt::Write>(&self, f: &mut fmt::Formatter<W>) -> fmt::Result {
+        let r = self.0;
+        write!(f, "REFUSED {} {} {}", r.reason.number(), r.place, r.year)
+    }
 }
 
-fn end_line(rt: &impl Print) -> io::Result<()> {
-    rt.print("\n")
+// A record: its number, place, total length, code, number in group, group number, localisation, points of the first part, items.
+#[derive(Clone, Copy)]
+struct Line {
+    number: u32,
+    record: RecordAt,
 }
 
-fn refused(rt: &impl Print, r: Refusal) -> io::Result<()> {
-    rt.print("REFUSED")?;
-    number(rt, r.number as u64)?;
-    number(rt, r.place as u64)?;
-    number(rt, r.year as u64)?;
-    end_line(rt)
-}
-
-// Number, place, total length, code, number in group, group number, localisation, points of the first part, items.
-fn line(rt: &impl Print, number_of: u32, r: RecordAt) -> io::Result<()> {
-    print!(rt; "{number_of}")?;
-    number(rt, r.place as u64)?;
-    number(rt, r.total as u64)?;
-    number(rt, r.code as u64)?;
-    number(rt, r.in_group as u64)?;
-    number(rt, r.group as u64)?;
-    number(rt, (r.reference % 16) as u64)?;
-    number(rt, r.points as u64)?;
-    number(rt, r.items as u64)?;
-    end_line(rt)
+impl fmt::Display for Line {
+    fn fmt<W: fmt::Write>(&self, f: &mut fmt::Formatter<W>) -> fmt::Result {
+        let r = self.record;
+        write!(f, "{} {} {} {}", self.number, r.place, r.total, r.code)?;
+        let localisation = r.reference % 16;
+        write!(
+            f,
+            " {} {} {localisation} {} {}",
+            r.in_group, r.group, r.points, r.items
+        )
+    }
 }
 
 fn lines(rt: &impl Print, s: &[u8], records: u32) -> io::Result<()> {
-    for i in 0..records {
-        match reading::records::record_at(s, Setting::Y2017, i as u64) {
-            Found::Record(r) => {
-                line(rt, i, r)?;
-            }
-            Found::Refused(r) => {
-                refused(rt, r)?;
-            }
+    for number in 0..records {
+        match record_at(s, Setting::Y2017, u64::from(number)) {
+            Ok(record) => println!(rt; "{}", Line { number, record })?,
+            Err(r) => println!(rt; "{}", Refused(r))?,
         }
     }
     Ok(())
 }
 
 fn list(rt: &impl Print, s: &[u8]) -> io::Result<()> {
-    match reading::sheets::check(s, Setting::Y2017) {
-        Checked::Accepted(z) => {
-            rt.print("SXF")?;
-            number(rt, s.len() as u64)?;
-            number(rt, z.sum as u64)?;
-            number(rt, z.records as u64)?;
-            end_line(rt)?;
+    match check(s, Setting::Y2017) {
+        Ok(z) => {
+            println!(rt; "SXF {} {} {}", s.len(), z.sum, z.records)?;
             lines(rt, s, z.records)
         }
-        Checked::Refused(r) => refused(rt, r),
+        Err(r) => println!(rt; "{}", Refused(r)),
     }
-}
-
-// Reads until the buffer is full or the input ends, and answers how many bytes it put at the buffer's start.
-fn read_full(from: &mut impl Read, buffer: &mut [u8]) -> io::Result<usize>
-    ensures { IfOk result (λ n. n ≤ length buffer.new) }
-{
-    let mut done = 0;
-    while done < buffer.len() {
-        let n = from.read(&mut buffer[done..])?;
-        if n == 0 {
-            break;
-        }
-        done += n;
-    }
-    Ok(done)
 }
 
 fn main(rt: HostRuntime) -> io::Result<()> {
     let mut input = rt.reader();
-    let mut sheet = [0u8; 65536];
-    let n = read_full(&mut input, &mut sheet)?;
-    let mut more = [0u8; 1];
-    let m = read_full(&mut input, &mut more)?;
-    if 0 < m {
-        return refused(
-            &rt,
-            Refusal {
-                number: TOO_LONG,
-                place: 0,
-                year: 0,
-            },
-        );
+    let mut sheet = Vec::with_capacity(rt.alloc(), MOST)?;
+    io::copy(&mut input.by_ref().take(MOST as u64), &mut sheet)?;
+    if input.read(&mut [0u8; 1])? != 0 {
+        let too_long = Refusal {
+            reason: Reason::TooLong,
+            place: 0,
+            year: 0,
+        };
+        return println!(rt; "{}", Refused(too_long));
     }
-    list(&rt, &sheet[..n])
+    list(&rt, &sheet)
 }

@@ -4,22 +4,10 @@ use Rattle.meanings.proofs.coordinates.coordinate_of.Kinds as coordinate-of-kind
 use Rattle.meanings.proofs.coordinates.coordinate_of.Reads as coordinate-of
 use Rattle.meanings.proofs.coordinates.measure_of.Kinds as measure-of-kinds
 use Rattle.meanings.proofs.coordinates.measure_of.Reads as measure-of
-use Rattle.meanings.proofs.coordinates.UnknownUnit.byte.Kinds as unknown-byte-kinds
-use Rattle.meanings.proofs.coordinates.UnknownUnit.byte.Reads as unknown-byte
-use Rattle.meanings.proofs.coordinates.UnknownUnit.number.Kinds as unknown-number-kinds
-use Rattle.meanings.proofs.coordinates.UnknownUnit.number.Reads as unknown-number
-use Rattle.meanings.proofs.coordinates.Height.unit.Kinds as height-unit-kinds
-use Rattle.meanings.proofs.coordinates.Height.unit.Reads as height-unit
-use Rattle.meanings.proofs.coordinates.Height.number.Kinds as height-number-kinds
-use Rattle.meanings.proofs.coordinates.Height.number.Reads as height-number
-use Rattle.meanings.proofs.coordinates.DevicePoints.number.Kinds as device-points-number-kinds
-use Rattle.meanings.proofs.coordinates.DevicePoints.number.Reads as device-points-number
-use Rattle.meanings.proofs.coordinates.Metres.number.Kinds as metres-number-kinds
-use Rattle.meanings.proofs.coordinates.Metres.number.Reads as metres-number
-use Rattle.meanings.proofs.coordinates.Radians.number.Kinds as radians-number-kinds
-use Rattle.meanings.proofs.coordinates.Radians.number.Reads as radians-number
-use Rattle.meanings.proofs.coordinates.Degrees.number.Kinds as degrees-number-kinds
-use Rattle.meanings.proofs.coordinates.Degrees.number.Reads as degrees-number
+use Rattle.meanings.proofs.coordinates.Quantity.unit.Kinds as quantity-unit-kinds
+use Rattle.meanings.proofs.coordinates.Quantity.unit.Reads as quantity-unit
+use Rattle.meanings.proofs.coordinates.Quantity.number.Kinds as quantity-number-kinds
+use Rattle.meanings.proofs.coordinates.Quantity.number.Reads as quantity-number
 use Rattle.meanings.proofs.corners.not_number.Kinds as not-number-kinds
 use Rattle.meanings.proofs.corners.not_number.Reads as not-number
 use Rattle.meanings.proofs.corners.corners_of.Kinds as corners-of-kinds
@@ -28,6 +16,8 @@ use Rattle.meanings.proofs.elements.element_of.Kinds as element-of-kinds
 use Rattle.meanings.proofs.elements.element_of.Reads as element-of
 use Rattle.meanings.proofs.setting.Setting.new.Kinds as setting-new-kinds
 use Rattle.meanings.proofs.setting.Setting.new.Reads as setting-new
+use Rattle.meanings.proofs.setting.SettingTryFromU32.try_from.Kinds as setting-try-from-kinds
+use Rattle.meanings.proofs.setting.SettingTryFromU32.try_from.Reads as setting-try-from
 use Rattle.meanings.proofs.setting.Setting.year.Kinds as setting-year-kinds
 use Rattle.meanings.proofs.setting.Setting.year.Reads as setting-year
 use Rattle.meanings.proofs.units.unit_of.Kinds as unit-of-kinds
@@ -40,6 +30,7 @@ use Rattle.meanings.proofs.values.value_of.Kinds as value-of-kinds
 use Rattle.meanings.proofs.values.value_of.Reads as value-of
 use Rattle.meanings.proofs.visibility.visibility_of.Kinds as visibility-of-kinds
 use Rattle.meanings.proofs.visibility.visibility_of.Reads as visibility-of
+use Rattle.meanings.proofs.Laws.Settings.{same_made}
 use borrow.Fn.Kinds.{ParamKind, ResultKind, Dens, Out, res_t, ended_of}
 use contract.Lifetimes.{Lfts}
 use denote.Triple.Clauses.{AtExit}
@@ -59,29 +50,14 @@ once_measure_of κs a x y e f p q = p ∙ sym q
 pub once_coordinate_of : Once coordinate-of-kinds.ps coordinate-of-kinds.r coordinate-of.Post
 once_coordinate_of κs a x y e f p q = p ∙ sym q
 
-pub once_device_points-number : Once device-points-number-kinds.ps device-points-number-kinds.r device-points-number.Post
-once_device_points-number κs a x y e f p q = p ∙ sym q
+-- of each unit
+pub once_quantity_unit : (U : _) (l : _) (c : _) (g : _) (d : _)
+    → Once (quantity-unit-kinds.ps U l c) (quantity-unit-kinds.r U l c) (quantity-unit.Post U l c g d)
+once_quantity_unit U l c g d κs a x y e f p q = p ∙ sym q
 
-pub once_metres_number : Once metres-number-kinds.ps metres-number-kinds.r metres-number.Post
-once_metres_number κs a x y e f p q = p ∙ sym q
-
-pub once_radians_number : Once radians-number-kinds.ps radians-number-kinds.r radians-number.Post
-once_radians_number κs a x y e f p q = p ∙ sym q
-
-pub once_degrees_number : Once degrees-number-kinds.ps degrees-number-kinds.r degrees-number.Post
-once_degrees_number κs a x y e f p q = p ∙ sym q
-
-pub once_unknown-byte : Once unknown-byte-kinds.ps unknown-byte-kinds.r unknown-byte.Post
-once_unknown-byte κs a x y e f p q = p ∙ sym q
-
-pub once_unknown-number : Once unknown-number-kinds.ps unknown-number-kinds.r unknown-number.Post
-once_unknown-number κs a x y e f p q = p ∙ sym q
-
-pub once_height-unit : Once height-unit-kinds.ps height-unit-kinds.r height-unit.Post
-once_height-unit κs a x y e f p q = p ∙ sym q
-
-pub once_height-number : Once height-number-kinds.ps height-number-kinds.r height-number.Post
-once_height-number κs a x y e f p q = p ∙ sym q
+pub once_quantity_number : (U : _) (l : _) (c : _) (g : _) (d : _)
+    → Once (quantity-number-kinds.ps U l c) (quantity-number-kinds.r U l c) (quantity-number.Post U l c g d)
+once_quantity_number U l c g d κs a x y e f p q = p ∙ sym q
 
 pub once_not_number : Once not-number-kinds.ps not-number-kinds.r not-number.Post
 once_not_number κs a x y e f p q = p ∙ sym q
@@ -90,7 +66,10 @@ pub once_corners-of : Once corners-of-kinds.ps corners-of-kinds.r corners-of.Pos
 once_corners-of κs a x y e f p q = p ∙ sym q
 
 pub once_setting_new : Once setting-new-kinds.ps setting-new-kinds.r setting-new.Post
-once_setting_new κs a x y e f p q = p.0 ∙ sym q.0
+once_setting_new κs a x y e f p q = same_made x y (p ∙ sym q)
+
+pub once_setting_try_from : Once setting-try-from-kinds.ps setting-try-from-kinds.r setting-try-from.Post
+once_setting_try_from κs a x y e f p q = same_made x y (p ∙ sym q)
 
 pub once_setting-year : Once setting-year-kinds.ps setting-year-kinds.r setting-year.Post
 once_setting-year κs a x y e f p q = p ∙ sym q

@@ -5,8 +5,8 @@ use Rattle.layout.specs.Answers.Corners.{doubles, corners_from, corners_of}
 use Rattle.layout.specs.Answers.Structs.{bits_of}
 use Rattle.layout.specs.Bytes.{All}
 use Rattle.layout.specs.Fields.Passport
-use Rattle.layout.specs.declared.CornerBits.{CornerBits}
-use Rattle.layout.specs.declared.Corners.TheVariants.{Doubles, Bits, Refused}
+use Rattle.layout.specs.declared.PlaneCorners.{PlaneCorners}
+use Rattle.layout.specs.declared.Corners.TheVariants.{Doubles, Bits}
 use Rattle.layout.specs.declared.Corners.{Corners}
 use Rattle.meanings.specs.Places.{eight, place_or, first_from, first_none}
 use lib.Dec.{T}
@@ -29,8 +29,8 @@ kinds : (of_bits binary64 0x7FF0000000000000 ≡ inf false) × (of_bits binary64
 unfolding of_bits nan_bits to_bits
 kinds = (refl, refl, refl, refl, refl, refl, refl, refl)
 
--- the eight are of 64 bits, as every CornerBits of the code is
-pub record Words (b : CornerBits) : Type 0 where
+-- the eight are of 64 bits, as the code has them
+pub record Words (b : PlaneCorners ℕ) : Type 0 where
   pub sw_x : b.sw_x < 2 ^ 64
   pub sw_y : b.sw_y < 2 ^ 64
   pub nw_x : b.nw_x < 2 ^ 64
@@ -44,7 +44,7 @@ abbrev Real : ℕ → Type 0
 Real b = nan_bits binary64 b ≡ false
 
 -- What holds of eight as stored, with the place of the first that is a NaN, and of eight doubles if all are numbers, holds of the answer.
-module _ (P : Corners → ℕ → Type 0) (c : CornerBits) (stored : (place : ℕ) → P (Bits place c) place) where
+module _ (P : Corners → ℕ → Type 0) (c : PlaneCorners ℕ) (stored : (place : ℕ) → P (Bits place c) place) where
   past : (test : Bool) (b place later : ℕ) (m : Corners) → nan_bits binary64 b ≡ test → (Real b → P m later)
       → P (cond test (Bits place c) m) (cond test place later)
   past true b place later m t k = stored place
@@ -61,7 +61,7 @@ module _ (P : Corners → ℕ → Type 0) (c : CornerBits) (stored : (place : �
   by_eight k = by_list (Passport.corners).place (eight c) k
 
 -- eight numbers, as doubles and back
-pub all_back : (c : CornerBits) → Words c → All Real (eight c) → bits_of (doubles c) ≡ c
+pub all_back : (c : PlaneCorners ℕ) → Words c → All Real (eight c) → bits_of (doubles c) ≡ c
 all_back c w r =
     rw (
       has_bits c.sw_x w.sw_x r.0,
@@ -76,10 +76,9 @@ all_back c w r =
     refl
 
 -- An answer keeps the bits c: its doubles have them, field by field; or it has them as they are, with the place of the first that is a NaN.
-abbrev pub Keeps : CornerBits → Corners → ℕ → Type 0
+abbrev pub Keeps : PlaneCorners ℕ → Corners → ℕ → Type 0
 Keeps c (Doubles d) none = bits_of d ≡ c
 Keeps c (Bits place b) none = (b ≡ c) × (place ≡ none)
-Keeps c (Refused r) none = Unit {0}
 
-pub corners-same : (c : CornerBits) → Words c → Keeps c (corners_of c) (first_none c)
+pub corners-same : (c : PlaneCorners ℕ) → Words c → Keeps c (corners_of c) (first_none c)
 corners-same c w = by_eight (Keeps c) c (λ place. (refl, refl)) (all_back c w)

@@ -2,6 +2,8 @@
 pub mod Settings
 pub mod Coordinates
 -- Only for the contracts of private functions: `layout`'s definitions in the shape of the code, which the proofs hold to the former.
-pub mod Signed
-pub mod Places
+pub mod Integers
+pub mod Narrow
 pub mod Levels
+-- The eight corners as a list, and the place of the first that is no number, which proofs/Same.antt tells.
+pub mod Places

@@ -1,17 +1,21 @@
 -- What making a setting answers, case by case. (01, The refusals: "ASK: setting not one of nine")
 use Rattle.std.specs.Prelude.{ℕ, ◌≡◌, refl}
 use Rattle.layout.specs.Answers.Calls.{setting_of}
-use Rattle.layout.specs.Answers.Enums.{refusal}
-use Rattle.layout.specs.Walk.{Answer, given, refused}
-use Rattle.meanings.specs.declared.setting.Made.{Made}
-use Rattle.meanings.specs.declared.setting.Made.TheVariants.{At, Refused}
+use Rattle.layout.specs.Refusals.{ASK}
+use Rattle.layout.specs.Answers.Enums.{result_of}
+use Rattle.meanings.specs.declared.setting.Setting.{Setting}
+use Rattle.layout.specs.declared.Refusal.{Refusal}
+use Rattle.std.specs.Prelude.{Result, Ok, Err}
 
-unfoldable pub made_of : Answer ℕ → Made
-made_of (given year) = At (record { year = year })
-made_of (refused number place year) = Refused (refusal number place year)
+-- the year of the setting made, or the refusal; a setting is its year (`nine` has one proof), so that this is all of the answer
+abbrev pub year_in : Result Setting Refusal → Result ℕ Refusal
+year_in (Ok s) = Ok s.year
+year_in (Err r) = Err r
 
-cases : (made_of (setting_of 1999) ≡ At (record { year = 1999 })) × (made_of (setting_of 2017) ≡ At (record { year = 2017 }))
-    × (made_of (setting_of 2018) ≡ Refused (record { number = 16; place = 0; year = 0 }))
-    × (made_of (setting_of 0) ≡ Refused (record { number = 16; place = 0; year = 0 }))
-unfolding made_of
+-- the answer, as a year
+abbrev pub made : ℕ → Result ℕ Refusal
+made year = result_of (λ y. y) (setting_of year)
+
+cases : (made 1999 ≡ Ok 1999) × (made 2017 ≡ Ok 2017) × (made 2018 ≡ Err (record { reason = ASK; place = 0; year = 0 }))
+    × (made 0 ≡ Err (record { reason = ASK; place = 0; year = 0 }))
 cases = (refl, refl, refl, refl)

@@ -1,47 +1,46 @@
 // The eight plane corners. (01, Passport: "answered together as doubles, each with its stored bits")
 ghost use Rattle.layout.specs.Answers.Corners.{corners_of};
-ghost use Rattle.meanings.specs.Places.{place_or, first_none};
+ghost use Rattle.meanings.specs.Places.{eight};
 ghost use Rattle.std.specs.Float.{binary64};
 ghost use Rattle.std.specs.Float.Ieee.{nan_bits};
+ghost use Rattle.std.specs.List.{position};
 ghost use Rattle.std.specs.Prelude.{◌≡◌};
 
-use layout::{CornerBits, Corners, PlaneCorners, passport};
+use layout::{Corners, PlaneCorners, passport};
+
+// The bits of an infinity, and the weight of the sign.
+const INFINITY: u64 = 0x7FF0000000000000;
+
+const SIGN: u64 = 0x8000000000000000;
+
+// The width of a corner in the passport.
+const WIDTH: usize = 8;
 
 // Whether the bits are a NaN's: all that lie above an infinity's, without the sign.
 pub fn not_number(bits: u64) -> bool
     ensures { result ≡ nan_bits binary64 bits }
 {
-    0x7FF0000000000000 < bits % 0x8000000000000000
+    INFINITY < bits % SIGN
 }
 
-// The place of this corner if its bits are a NaN, else the place found among the later corners.
-fn place_or(bits: u64, place: usize, later: usize) -> usize
-    ensures { result ≡ place_or bits place later }
+// Which of the eight is the first that is no number.
+fn first_none(b: PlaneCorners<u64>) -> Option<usize>
+    ensures { result ≡ position (nan_bits binary64) (eight b) }
 {
-    if not_number(bits) { place } else { later }
+    [
+        b.sw_x, b.sw_y, b.nw_x, b.nw_y, b.ne_x, b.ne_y, b.se_x, b.se_y,
+    ]
+    .iter()
+    .position(|bits| not_number(*bits))
 }
 
-// The place in the passport of the first that is no number, or 0, where no corner stands. It goes from the last to the first, so that
-// the first has the last word, with no branch for each.
-fn first_none(b: CornerBits) -> usize
-    ensures { result ≡ first_none b }
-{
-    let p = place_or(b.se_y, passport::SE_Y, 0);
-    let p = place_or(b.se_x, passport::SE_X, p);
-    let p = place_or(b.ne_y, passport::NE_Y, p);
-    let p = place_or(b.ne_x, passport::NE_X, p);
-    let p = place_or(b.nw_y, passport::NW_Y, p);
-    let p = place_or(b.nw_x, passport::NW_X, p);
-    let p = place_or(b.sw_y, passport::SW_Y, p);
-    place_or(b.sw_x, passport::SW_X, p)
-}
-
-pub fn corners_of(b: CornerBits) -> Corners
+// The eight are written out: a map over PlaneCorners would have eight clauses in its contract to save these eight lines.
+#[tactic(auto, using(crate::proofs::Laws::Places::at_first, crate::proofs::Laws::Places::as_doubles))]
+pub fn corners_of(b: PlaneCorners<u64>) -> Corners
     ensures { result ≡ corners_of b }
 {
-    let place = first_none(b);
-    if place != 0 {
-        return Corners::Bits(place, b);
+    if let Some(i) = first_none(b) {
+        return Corners::Bits(passport::SW_X + WIDTH * i, b);
     }
     Corners::Doubles(PlaneCorners {
         sw_x: f64::from_bits(b.sw_x),

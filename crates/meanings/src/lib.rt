@@ -5,8 +5,8 @@
 // Relied on: the definitions and answer types of `layout`, and of `fields` what a reference number says and the passport's bytes for units.
 //
 // Promised: each public function takes every value of its parameters (none has a `requires`), and its contract is an equation: with a
-// definition of `layout` or one of specs/ that is made of those, with a private field (Setting's year, a coordinate's number), or with the
-// kit's `nan_bits` (`not_number`). Beside its equation `Setting::new` says that the year is one of the nine. So for each input one answer is
+// definition of `layout` or one of specs/ that is made of those, with a private field (Setting's year, a Quantity's unit and number), or with
+// the kit's `nan_bits` (`not_number`). Of every Setting it is known that its year is one of the nine. So for each input one answer is
 // right (proofs/Once.antt). Besides: a double of the corners has the bits stored (proofs/Same.antt), a coordinate is in the unit of its sheet
 // (proofs/Measures.antt), and the number of an item is the one that `layout` gives the item (proofs/Items.antt).
 #![tactic(auto)]
@@ -14,7 +14,6 @@
 pub mod coordinates;
 pub mod corners;
 pub mod elements;
-mod numbers;
 pub mod setting;
 pub mod units;
 pub mod values;

@@ -3,7 +3,10 @@ ghost use Rattle.std.specs.Prelude.{◌<◌, ◌≡◌};
 ghost use Rattle.layout.specs.Shared.Visibility.{visibility_of};
 ghost use Rattle.meanings.specs.Levels.{denominator_of};
 
-use layout::Visibility;
+use layout::Scales;
+
+// The byte of a record that has none.
+const UNSET: u8 = 0xFF;
 
 // Source document 000, table 4.
 const TABLE4: [u32; 16] = [
@@ -17,6 +20,7 @@ const TABLE5: [u32; 16] = [
 ];
 
 // Bit 7 of the passport's flags picks the table.
+#[tactic(auto, unfolding(crate::specs::Levels::denominator_of))]
 fn denominator(flags: u8, level: usize) -> u32
     requires { level < 16 }
     ensures { result ≡ denominator_of flags level }
@@ -29,13 +33,17 @@ fn denominator(flags: u8, level: usize) -> u32
 }
 
 // flags is the byte at +96 of the passport, byte the record's generalisation byte.
-pub fn visibility_of(flags: u8, byte: u8) -> Visibility
+#[tactic(auto, unfolding(layout::specs::Shared::Visibility::visibility_of, crate::specs::Levels::denominator_of))]
+pub fn visibility_of(flags: u8, byte: u8) -> Option<Scales>
     ensures { result ≡ visibility_of flags byte }
 {
-    if byte == 0xFF {
-        return Visibility::Unset;
+    if byte == UNSET {
+        return None;
     }
     let low = (byte % 16) as usize;
     let high = (byte / 16 % 16) as usize;
-    Visibility::Bounds(denominator(flags, low), denominator(flags, 15 - high))
+    Some(Scales {
+        lower: denominator(flags, low),
+        upper: denominator(flags, 15 - high),
+    })
 }

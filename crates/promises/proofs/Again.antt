@@ -16,14 +16,8 @@ use Rattle.layout.specs.Shared.Tails.{AllClean, clean_tails}
 use Rattle.layout.specs.Sheet.{Head, Sheet, Table}
 use Rattle.layout.specs.Walk.{given}
 use Rattle.layout.specs.Writing.Tables.{table, flatten}
-use Rattle.layout.specs.declared.Checked.TheVariants as Check
-use Rattle.layout.specs.declared.Checked.{Checked}
 use Rattle.layout.specs.declared.HeadAt.{HeadAt}
-use Rattle.layout.specs.declared.Headed.TheVariants as Head-of
-use Rattle.layout.specs.declared.Headed.{Headed}
 use Rattle.layout.specs.declared.Sizes.{Sizes}
-use Rattle.layout.specs.declared.Written.TheVariants as Write
-use Rattle.layout.specs.declared.Written.{Written}
 use Rattle.laws.proofs.Again as Law
 use Rattle.laws.proofs.Writing.Sheets.{Typed}
 use Rattle.laws.proofs.Written.{by_length}
@@ -32,8 +26,10 @@ use Rattle.promises.proofs.Heads.{head-is, tails_are, head-given, head_by_lem, s
 use Rattle.promises.proofs.Rooms.{Fit, rooms_on, roomy_back, part_again, part-within}
 use Rattle.promises.specs.Hands.{head_by, SaysClean, table_by, TableWithin}
 use Rattle.reading.proofs.Laws.Seen.{by_accepted}
+use Rattle.layout.specs.declared.Refusal.{Refusal}
+use Rattle.std.specs.Prelude.{Result, Ok}
 
-module _ (y : ℕ) (h : Head) (t : Table) (o out : List ℕ) (n : ℕ) (w : Writes y h t o out (Write.Length n)) where
+module _ (y : ℕ) (h : Head) (t : Table) (o out : List ℕ) (n : ℕ) (w : Writes y h t o out (Ok n)) where
   -- the sheet that the call says was written
   abbrev pub sheet : List ℕ
   sheet = take n out
@@ -54,7 +50,7 @@ module _ (y : ℕ) (h : Head) (t : Table) (o out : List ℕ) (n : ℕ) (w : Writ
 
     -- Reading a written sheet gives back the table: unfolding it, where there is room, fills the slices with the numbers, elements and
     -- bytes that were given to the writer, and leaves the rest of each as it was.
-    pub read_again : (t₀ e₀ b₀ t₁ e₁ b₁ : List ℕ) (r : Checked) → Unfolds y sheet t₀ e₀ b₀ t₁ e₁ b₁ r → Fit (rooms t₀ e₀ b₀) t
+    pub read_again : (t₀ e₀ b₀ t₁ e₁ b₁ : List ℕ) (r : Result Sizes Refusal) → Unfolds y sheet t₀ e₀ b₀ t₁ e₁ b₁ r → Fit (rooms t₀ e₀ b₀) t
         → (t₁ ≡ over t.numbers t₀) × (e₁ ≡ over t.elements e₀) × (b₁ ≡ over t.bytes b₀)
     read_again t₀ e₀ b₀ t₁ e₁ b₁ r u f =
         let all = Law.unfolded_again y h t (length o) sheet typed bs was (rooms t₀ e₀ b₀) f.0 f.1 f.2 in (
@@ -64,8 +60,8 @@ module _ (y : ℕ) (h : Head) (t : Table) (o out : List ℕ) (n : ℕ) (w : Writ
         )
 
     -- That call accepts it then, with that table's lengths,
-    pub unfold_again : (t₀ e₀ b₀ t₁ e₁ b₁ : List ℕ) (r : Checked) → Unfolds y sheet t₀ e₀ b₀ t₁ e₁ b₁ r → Fit (rooms t₀ e₀ b₀) t
-        → (u : Sheet) × (u.head ≡ h) × (flatten u.records ≡ t) × (r ≡ Check.Accepted (sizes_of u))
+    pub unfold_again : (t₀ e₀ b₀ t₁ e₁ b₁ : List ℕ) (r : Result Sizes Refusal) → Unfolds y sheet t₀ e₀ b₀ t₁ e₁ b₁ r → Fit (rooms t₀ e₀ b₀) t
+        → (u : Sheet) × (u.head ≡ h) × (flatten u.records ≡ t) × (r ≡ Ok (sizes_of u))
     unfolding checked_of roomy
     unfold_again t₀ e₀ b₀ t₁ e₁ b₁ r c f =
         let m = rooms t₀ e₀ b₀ in (
@@ -79,26 +75,26 @@ module _ (y : ℕ) (h : Head) (t : Table) (o out : List ℕ) (n : ℕ) (w : Writ
         )
 
     -- and so does `check`, whatever is lent.
-    pub accepted : (r : Checked) → Checks y sheet r → (u : Sheet) × (u.head ≡ h) × (flatten u.records ≡ t) × (r ≡ Check.Accepted (sizes_of u))
+    pub accepted : (r : Result Sizes Refusal) → Checks y sheet r → (u : Sheet) × (u.head ≡ h) × (flatten u.records ≡ t) × (r ≡ Ok (sizes_of u))
     unfolding checked_of
     accepted r c = (again.0, again.2, again.3, c ∙ ap checked_of again.1)
 
     -- The head is the one that was given: `head_of` answers its lengths and its scale, and the bytes that a caller then takes from the sheet
     -- are that head, byte for byte. All four text fields are clean.
-    pub head_again : (r : Headed) → Heads y sheet r
-        → (a : HeadAt) × (r ≡ Head-of.Head a) × (a ≡ head_at h (clean_tails h)) × (head_by sheet a ≡ h) × SaysClean a
+    pub head_again : (r : Result HeadAt Refusal) → Heads y sheet r
+        → (a : HeadAt) × (r ≡ Ok a) × (a ≡ head_at h (clean_tails h)) × (head_by sheet a ≡ h) × SaysClean a
     unfolding headed_of
     head_again r c =
         let clean = Law.written-clean y h t (length o) sheet typed bs was again.0 again.1 in (
           head_at h (clean_tails h),
-          c ∙ ap headed_of (again.1 ∙ ap given clean) ∙ ap (λ k. Head-of.Head (head_at k (clean_tails k))) again.2,
+          c ∙ ap headed_of (again.1 ∙ ap given clean) ∙ ap (λ k. Ok (head_at k (clean_tails k))) again.2,
           refl,
           head-given sheet h (clean_tails h) (head-is y sheet again.0 again.1 ∙ again.2),
           says_clean h,
         )
 
 -- The other way round: the sheet s was unfolded.
-module _ (y : ℕ) (s : List ℕ) (t₀ e₀ b₀ t₁ e₁ b₁ : List ℕ) (z : Sizes) (f : Unfolds y s t₀ e₀ b₀ t₁ e₁ b₁ (Check.Accepted z)) where
+module _ (y : ℕ) (s : List ℕ) (t₀ e₀ b₀ t₁ e₁ b₁ : List ℕ) (z : Sizes) (f : Unfolds y s t₀ e₀ b₀ t₁ e₁ b₁ (Ok z)) where
   -- what was read, and that its table was answered
   got : (u : Sheet) × (reading y s ≡ given u) × (unfolded y s (rooms t₀ e₀ b₀) ≡ given (flatten u.records)) × (z ≡ sizes_of u)
   got =
@@ -126,27 +122,27 @@ module _ (y : ℕ) (s : List ℕ) (t₀ e₀ b₀ t₁ e₁ b₁ : List ℕ) (z 
       )
 
   -- A sheet that unfolds has a head: the two calls accept together.
-  pub heads_too : (r : Headed) → Heads y s r → r ≡ Head-of.Head (head_at (head_in s) (tails_in s))
+  pub heads_too : (r : Result HeadAt Refusal) → Heads y s r → r ≡ Ok (head_at (head_in s) (tails_in s))
   unfolding headed_of
   heads_too r c =
-      c ∙ ap headed_of got.1 ∙ ap Head-of.Head (sym (ap₂ head_at (head-is y s got.0 got.1) (tails_are y s got.0 got.1)))
+      c ∙ ap headed_of got.1 ∙ ap Ok (sym (ap₂ head_at (head-is y s got.0 got.1) (tails_are y s got.0 got.1)))
 
   -- Writing the reading of an accepted sheet gives its bytes with the tails cleared and the sum to match. The sheet was unfolded and its head
   -- asked for; the writer is given that head as a caller has it (`head_by`), and of each slice as much as the reader said it wrote (`table_by`).
-  pub written_again : Bytes s → (a : HeadAt) → Heads y s (Head-of.Head a) → (o out : List ℕ) (r : Written) → length s ≤ length o
-      → Writes y (head_by s a) (table_by z t₁ e₁ b₁) o out r → (r ≡ Write.Length (length s)) × (out ≡ over (cleared s) o)
+  pub written_again : Bytes s → (a : HeadAt) → Heads y s (Ok a) → (o out : List ℕ) (r : Result ℕ Refusal) → length s ≤ length o
+      → Writes y (head_by s a) (table_by z t₁ e₁ b₁) o out r → (r ≡ Ok (length s)) × (out ≡ over (cleared s) o)
   unfolding written_of
   written_again bs a c o out r room w =
       let head : head_by s a ≡ got.0.head = head_by_lem y s a c ∙ head-is y s got.0 got.1 in
       let all : written y (head_by s a) (table_by z t₁ e₁ b₁) (length o) ≡ given (cleared s) =
       (λ j. written y (head j) (table_by_lem j) (length o)) ∙ Law.written_again y s bs got.0 got.1 (length o) room in (
-        w.0 ∙ ap written_of all ∙ ap Write.Length (Law.same_length y s bs got.0 got.1),
+        w.0 ∙ ap written_of all ∙ ap Ok (Law.same_length y s bs got.0 got.1),
         w.1 ∙ ap (λ x. lent the_sheet x o) all,
       )
 
   -- Where `head_of` says that all four text fields are clean, these are the sheet's bytes.
-  pub clean_again : Bytes s → (a : HeadAt) → Heads y s (Head-of.Head a) → SaysClean a → (o out : List ℕ) (r : Written) → length s ≤ length o
-      → Writes y (head_by s a) (table_by z t₁ e₁ b₁) o out r → (r ≡ Write.Length (length s)) × (out ≡ over s o)
+  pub clean_again : Bytes s → (a : HeadAt) → Heads y s (Ok a) → SaysClean a → (o out : List ℕ) (r : Result ℕ Refusal) → length s ≤ length o
+      → Writes y (head_by s a) (table_by z t₁ e₁ b₁) o out r → (r ≡ Ok (length s)) × (out ≡ over s o)
   clean_again bs a c clean o out r room w =
       let again = written_again bs a c o out r room w in
       let tails = subst (λ x. AllClean x) (tails_are y s got.0 got.1) (tails-clean y s a c clean) in

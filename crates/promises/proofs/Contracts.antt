@@ -40,19 +40,12 @@ use Rattle.layout.specs.Index.Selecting.{index_of, selected, picked, entry_rows}
 use Rattle.layout.specs.Sheet.{Head, Table}
 use Rattle.layout.specs.Walk.{Answer}
 use Rattle.layout.specs.Writing.Tables.{table}
-use Rattle.layout.specs.declared.Checked.{Checked}
 use Rattle.layout.specs.declared.Corners.{Corners}
 use Rattle.layout.specs.declared.Dimension.{Dimension}
-use Rattle.layout.specs.declared.Found.{Found}
-use Rattle.layout.specs.declared.Headed.{Headed}
-use Rattle.layout.specs.declared.Hopped.{Hopped}
-use Rattle.layout.specs.declared.Indexed.{Indexed}
-use Rattle.layout.specs.declared.UnitAnswer.{UnitAnswer}
-use Rattle.layout.specs.declared.Written.{Written}
 use Rattle.meanings.proofs.coordinates.coordinate_of.Kinds as coordinate-kinds
 use Rattle.meanings.proofs.coordinates.coordinate_of.Reads as coordinate-of
 use Rattle.meanings.specs.Coordinates.{coordinate_in}
-use Rattle.meanings.specs.declared.coordinates.CoordinateAnswer.{CoordinateAnswer}
+use Rattle.meanings.specs.declared.coordinates.PointNumber.{PointNumber}
 use Rattle.reading.proofs.heads.corners_by_year.Kinds as corners-by-year-kinds
 use Rattle.reading.proofs.heads.corners_by_year.Reads as corners-by-year
 use Rattle.reading.proofs.heads.corners_of.Kinds as corners-kinds
@@ -81,6 +74,14 @@ use Rattle.writing.proofs.sheets.write.Kinds as write-kinds
 use Rattle.writing.proofs.sheets.write.Reads as write-sheet
 use Rattle.writing.proofs.sheets.write_by_year.Kinds as write-by-year-kinds
 use Rattle.writing.proofs.sheets.write_by_year.Reads as write-by-year
+use Rattle.layout.specs.declared.Sizes.{Sizes}
+use Rattle.layout.specs.declared.RecordAt.{RecordAt}
+use Rattle.layout.specs.declared.HeadAt.{HeadAt}
+use Rattle.layout.specs.declared.IndexSizes.{IndexSizes}
+use Rattle.layout.specs.declared.Hop.{Hop}
+use Rattle.layout.specs.declared.SheetUnit.{SheetUnit}
+use Rattle.layout.specs.declared.Refusal.{Refusal}
+use Rattle.std.specs.Prelude.{Result}
 
 -- The contract Post of a function with parameters ps and the result r says P of what it is passed (a), what it answers (x), and what stands
 -- in the parameters as it returns (e).
@@ -89,7 +90,7 @@ abbrev Says : {n : _} (ps : List (ParamKind n)) (r : ResultKind n) → Out n ps 
 Says {n} ps r Post P = (κs : Lfts n) (a : Dens κs ps) (x : (res_t r κs).Denot) (e : AtExit (ended_of n ps r) κs) → Post κs a x e → P κs a x e
 
 -- `check` answers r of the sheet s at the year y
-abbrev pub Checks : ℕ → List ℕ → Checked → Type 0
+abbrev pub Checks : ℕ → List ℕ → Result Sizes Refusal → Type 0
 Checks y s r = r ≡ checked_of (reading y s)
 
 pub check_says : Says check-kinds.ps check-kinds.r check-sheet.Post (λ κs a x e. Checks a.1.0.year a.0.now x)
@@ -99,7 +100,7 @@ pub check_by_year_says : Says check-by-year-kinds.ps check-by-year-kinds.r check
 check_by_year_says κs a x e p = p
 
 -- `head_of`
-abbrev pub Heads : ℕ → List ℕ → Headed → Type 0
+abbrev pub Heads : ℕ → List ℕ → Result HeadAt Refusal → Type 0
 Heads y s r = r ≡ headed_of (reading y s)
 
 pub head_says : Says head-kinds.ps head-kinds.r head-of.Post (λ κs a x e. Heads a.1.0.year a.0.now x)
@@ -109,7 +110,7 @@ pub head_by_year_says : Says head-by-year-kinds.ps head-by-year-kinds.r head-by-
 head_by_year_says κs a x e p = p
 
 -- `unit_of`
-abbrev pub Units : ℕ → List ℕ → UnitAnswer → Type 0
+abbrev pub Units : ℕ → List ℕ → Result SheetUnit Refusal → Type 0
 Units y s r = r ≡ unit_in (reading y s)
 
 pub unit_says : Says unit-kinds.ps unit-kinds.r unit-of.Post (λ κs a x e. Units a.1.0.year a.0.now x)
@@ -119,7 +120,7 @@ pub unit_by_year_says : Says unit-by-year-kinds.ps unit-by-year-kinds.r unit-by-
 unit_by_year_says κs a x e p = p
 
 -- `corners_of`
-abbrev pub Cornered : ℕ → List ℕ → Corners → Type 0
+abbrev pub Cornered : ℕ → List ℕ → Result Corners Refusal → Type 0
 Cornered y s r = r ≡ corners_in (reading y s)
 
 pub corners_says : Says corners-kinds.ps corners-kinds.r corners-of.Post (λ κs a x e. Cornered a.1.0.year a.0.now x)
@@ -129,7 +130,7 @@ pub corners_by_year_says : Says corners-by-year-kinds.ps corners-by-year-kinds.r
 corners_by_year_says κs a x e p = p
 
 -- `record_at`, of the record of a number
-abbrev pub Finds : ℕ → List ℕ → ℕ → Found → Type 0
+abbrev pub Finds : ℕ → List ℕ → ℕ → Result RecordAt Refusal → Type 0
 Finds y s number r = r ≡ found_of (asked y s number)
 
 pub record_says : Says record-kinds.ps record-kinds.r record-at.Post (λ κs a x e. Finds a.1.0.year a.0.now a.1.1.0 x)
@@ -140,7 +141,7 @@ pub record_by_year_says : Says record-by-year-kinds.ps record-by-year-kinds.r re
 record_by_year_says κs a x e p = p
 
 -- `coordinate_of`, of the passport's bytes from +96 on, a reference number, a dimension and stored bits
-abbrev pub Coordinates : List ℕ → ℕ → Dimension → ℕ → CoordinateAnswer → Type 0
+abbrev pub Coordinates : List ℕ → ℕ → Dimension → ℕ → Result PointNumber Refusal → Type 0
 Coordinates rest reference d bits r = r ≡ coordinate_in (measure_of rest reference d bits)
 
 pub coordinate_says : Says coordinate-kinds.ps coordinate-kinds.r coordinate-of.Post
@@ -148,7 +149,7 @@ pub coordinate_says : Says coordinate-kinds.ps coordinate-kinds.r coordinate-of.
 coordinate_says κs a x e p = p
 
 -- `unfold`, with three slices that held t₀, e₀, b₀ and then hold t₁, e₁, b₁
-abbrev pub Unfolds : ℕ → (s t₀ e₀ b₀ t₁ e₁ b₁ : List ℕ) → Checked → Type 0
+abbrev pub Unfolds : ℕ → (s t₀ e₀ b₀ t₁ e₁ b₁ : List ℕ) → Result Sizes Refusal → Type 0
 Unfolds y s t₀ e₀ b₀ t₁ e₁ b₁ r =
     (r ≡ checked_of (roomy y s (rooms t₀ e₀ b₀)))
     × ((t₁ ≡ lent the_numbers (unfolded y s (rooms t₀ e₀ b₀)) t₀)
@@ -165,7 +166,7 @@ pub unfold_by_year_says : Says unfold-by-year-kinds.ps unfold-by-year-kinds.r un
 unfold_by_year_says κs a x e p = p
 
 -- `write`, of a head and a table, into a slice that held o and then holds out
-abbrev pub Writes : ℕ → Head → Table → (o out : List ℕ) → Written → Type 0
+abbrev pub Writes : ℕ → Head → Table → (o out : List ℕ) → Result ℕ Refusal → Type 0
 Writes y h t o out r = (r ≡ written_of (written y h t (length o))) × (out ≡ lent the_sheet (written y h t (length o)) o)
 
 pub write_says : Says write-kinds.ps write-kinds.r write-sheet.Post
@@ -183,7 +184,7 @@ pub write_by_year_says : Says write-by-year-kinds.ps write-by-year-kinds.r write
 write_by_year_says κs a x e p = p
 
 -- `to_utf16` and `from_utf16`, of a list in a coding, into a slice that held o and then holds out; turn is the definition of the call
-abbrev pub Turns : (ℕ → List ℕ → ℕ → Answer (List ℕ)) → ℕ → (xs o out : List ℕ) → Written → Type 0
+abbrev pub Turns : (ℕ → List ℕ → ℕ → Answer (List ℕ)) → ℕ → (xs o out : List ℕ) → Result ℕ Refusal → Type 0
 Turns turn coding xs o out r = (r ≡ written_of (turn coding xs (length o))) × (out ≡ lent the_turned (turn coding xs (length o)) o)
 
 pub to_utf16_says : Says to-utf16-kinds.ps to-utf16-kinds.r to-utf16.Post
@@ -195,14 +196,14 @@ pub from_utf16_says : Says from-utf16-kinds.ps from-utf16-kinds.r from-utf16.Pos
 from_utf16_says κs a x e p = p
 
 -- `check` of an index
-abbrev pub ChecksIndex : List ℕ → Indexed → Type 0
+abbrev pub ChecksIndex : List ℕ → Result IndexSizes Refusal → Type 0
 ChecksIndex xs r = r ≡ indexed_of (file_kind xs) (entries_in xs)
 
 pub index_check_says : Says index-check-kinds.ps index-check-kinds.r index-check.Post (λ κs a x e. ChecksIndex a.0.now x)
 index_check_says κs a x e p = p
 
 -- `build`, `read` and `select` of an index, and `select` from a sheet, into a slice that held o and then holds out; w is what the call's definition gives
-abbrev pub Gives : Answer (List ℕ) → (o out : List ℕ) → Written → Type 0
+abbrev pub Gives : Answer (List ℕ) → (o out : List ℕ) → Result ℕ Refusal → Type 0
 Gives w o out r = (r ≡ written_of (roomed (length o) w)) × (out ≡ lent the_given (roomed (length o) w) o)
 
 pub build_says : Says build-kinds.ps build-kinds.r build-index.Post
@@ -230,13 +231,13 @@ pub select_by_year_says : Says select-by-year-kinds.ps select-by-year-kinds.r se
 select_by_year_says κs a x e p = p
 
 -- `first_with`, of a wanted code, and `frame_of`
-abbrev pub FirstWith : ℕ → List ℕ → Hopped → Type 0
+abbrev pub FirstWith : ℕ → List ℕ → Result Hop Refusal → Type 0
 FirstWith code s r = r ≡ hopped_of (hop code s)
 
 pub first-with_says : Says first-with-kinds.ps first-with-kinds.r first-with.Post (λ κs a x e. FirstWith a.1.0 a.0.now x)
 first-with_says κs a x e p = p
 
-abbrev pub FrameOf : List ℕ → Hopped → Type 0
+abbrev pub FrameOf : List ℕ → Result Hop Refusal → Type 0
 FrameOf s r = r ≡ hopped_of (frame s)
 
 pub frame-of_says : Says frame-of-kinds.ps frame-of-kinds.r frame-of.Post (λ κs a x e. FrameOf a.0.now x)

@@ -12,24 +12,24 @@ use Rattle.layout.specs.Sheet.{Part, Reference, Record, Sheet}
 use Rattle.layout.specs.Walk.{given}
 use Rattle.layout.specs.declared.Dimension.TheVariants.{North, East, Height}
 use Rattle.layout.specs.declared.Dimension.{Dimension}
-use Rattle.layout.specs.declared.ElementAnswer.TheVariants as Is
 use Rattle.layout.specs.declared.Refusal.{Refusal}
 use Rattle.layout.specs.declared.Stored.{Stored}
 use Rattle.laws.proofs.Called.{reading-sound}
 use Rattle.laws.proofs.Writing.Records.{bytes-of-number}
 use Rattle.meanings.specs.Coordinates.{coordinate_in}
-use Rattle.meanings.specs.declared.coordinates.CoordinateAnswer.TheVariants as Answer
-use Rattle.meanings.specs.declared.coordinates.CoordinateAnswer.{CoordinateAnswer}
+use Rattle.meanings.specs.declared.coordinates.PointNumber.{PointNumber}
 use Rattle.promises.proofs.Contracts.{Coordinates}
 use borrow.Author.Tests.{lt-ltb}
 use mathlib.Core.Bool.{Bool, true, false}
 use mathlib.Core.List.{List, [], ◌∷◌}
 use mathlib.Core.Path.{◌≡◌, refl, sym, ap, ◌∙◌}
 use native.Mathlib.Omega.{arith}
+use Rattle.std.specs.Prelude.{Ok}
+use Rattle.std.specs.Prelude.{Result, Err}
 
 -- the element of a reference number, a dimension and bits
 abbrev pub Answered : ℕ → Dimension → ℕ → Type 0
-Answered reference d bits = (e : Stored) × (element_of reference d bits ≡ Is.Element e)
+Answered reference d bits = (e : Stored) × (element_of reference d bits ≡ Ok e)
 
 -- so many points, in two dimensions or in three, each of whose elements is answered in its dimension, and nothing after them
 abbrev pub Points : ℕ → Bool → ℕ → List ℕ → Type 0
@@ -49,18 +49,16 @@ PartAnswered r a = Points (reference_number r) (three_dimensions r) a.points a.e
 abbrev pub RecordAnswered : Record → Type 0
 RecordAnswered r = PartAnswered r.reference r.first × All (PartAnswered r.reference) r.subobjects
 
-fits : (width bits : ℕ) (e : Stored) → bits < 256 ^ width → fitting width bits e ≡ Is.Element e
+fits : (width bits : ℕ) (e : Stored) → bits < 256 ^ width → fitting width bits e ≡ Ok e
 fits width bits e h = rw (lt-ltb bits (256 ^ width) h) refl
 
-made : (rest : List ℕ) (d : Dimension) (e : Stored) (q : Refusal) → ¬ (Answer.Refused q ≡ coordinate_in (measured rest d e))
+made : (rest : List ℕ) (d : Dimension) (e : Stored) (q : Refusal) → ¬ (Err q ≡ coordinate_in (Ok (measured rest d e)))
 unfolding coordinate_in
-made rest North e q h = let x : ◌≡◌ {A = ℕ} 0 1 = cc in omega arith
-made rest East e q h = let x : ◌≡◌ {A = ℕ} 0 1 = cc in omega arith
-made rest Height e q h = let x : ◌≡◌ {A = ℕ} 0 1 = cc in omega arith
+made rest d e q h = let x : ◌≡◌ {A = ℕ} 0 1 = cc in omega arith
 
 -- such an element is a coordinate or a height, and no refusal, whatever the sheet's units are
 pub never_refused : (rest : List ℕ) (reference : ℕ) (d : Dimension) (bits : ℕ) → Answered reference d bits
-    → (r : CoordinateAnswer) → Coordinates rest reference d bits r → (q : Refusal) → ¬ (r ≡ Answer.Refused q)
+    → (r : Result PointNumber Refusal) → Coordinates rest reference d bits r → (q : Refusal) → ¬ (r ≡ Err q)
 unfolding measure_of
 never_refused rest reference d bits a r c q e = made rest d a.0 q (sym e ∙ c ∙ ap (λ x. coordinate_in (measured_by rest d x)) a.1)
 

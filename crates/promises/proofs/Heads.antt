@@ -14,9 +14,7 @@ use Rattle.layout.specs.Reading.Sheets.{start, head_in, tails_in, sheet_walk}
 use Rattle.layout.specs.Shared.Tails.{AllClean, clean_tails}
 use Rattle.layout.specs.Sheet.{Head, Tails, Sheet}
 use Rattle.layout.specs.Walk.{Answer, given, refused, outcome, ends}
-use Rattle.layout.specs.declared.Checked.TheVariants as Check
 use Rattle.layout.specs.declared.HeadAt.{HeadAt}
-use Rattle.layout.specs.declared.Headed.TheVariants as Head-of
 use Rattle.laws.proofs.Base.Texts.{text_at_lem, text-within}
 use Rattle.laws.proofs.Base.Walks.{given_inj}
 use Rattle.laws.proofs.Encoding.Tails.{all-clean}
@@ -24,11 +22,12 @@ use Rattle.promises.proofs.Contracts.{Heads}
 use Rattle.promises.specs.Hands.{head_by, SaysClean, HeadWithin}
 use Rattle.reading.proofs.Laws.Seen.{Seen, seen}
 use Rattle.reading_head.proofs.Laws.Read.{read_head, read-tails, read-long}
+use Rattle.std.specs.Prelude.{Ok}
 
 -- all that is known of a sheet that is read
 seen_read : (y : ℕ) (s : List ℕ) (u : Sheet) → reading y s ≡ given u → Seen y s (sizes_of u)
 unfolding checked_of
-seen_read y s u e = seen y s (sizes_of u) (Check.Accepted (sizes_of u)) (sym (ap checked_of e)) refl
+seen_read y s u e = seen y s (sizes_of u) (Ok (sizes_of u)) (sym (ap checked_of e)) refl
 
 -- its head and its tails stand in it
 read_as : (y : ℕ) (s : List ℕ) (u : Sheet) → reading y s ≡ given u → outcome (sheet_walk s) ≡ ends u
@@ -58,26 +57,26 @@ head-taken s a i = record {
 pub head-given : (s : List ℕ) (h : Head) (a : Tails) → head_in s ≡ h → head_by s (head_at h a) ≡ h
 head-given s h a stands = ap (λ k. head_by s (head_at k a)) (sym stands) ∙ head-taken s a ∙ stands
 
-by_headed : (a : Answer Sheet) (k : HeadAt) → Head-of.Head k ≡ headed_of a → (t : Sheet) × (a ≡ given t) × (k ≡ head_at t.head t.tails)
+by_headed : (a : Answer Sheet) (k : HeadAt) → Ok k ≡ headed_of a → (t : Sheet) × (a ≡ given t) × (k ≡ head_at t.head t.tails)
 unfolding headed_of
 by_headed (given t) k e = (t, refl, cc)
 by_headed (refused n p y) k e = absurd (let q : ◌≡◌ {A = ℕ} 0 1 = cc in omega arith)
 
 -- what `head_of` answers is of the head and the tails that stand in the sheet,
-pub answer-of : (y : ℕ) (s : List ℕ) (a : HeadAt) → Heads y s (Head-of.Head a) → a ≡ head_at (head_in s) (tails_in s)
+pub answer-of : (y : ℕ) (s : List ℕ) (a : HeadAt) → Heads y s (Ok a) → a ≡ head_at (head_in s) (tails_in s)
 answer-of y s a c =
     let g = by_headed (reading y s) a c in
     g.2 ∙ sym (ap₂ head_at (head-is y s g.0 g.1) (tails_are y s g.0 g.1))
 
 -- so where it says that all four text fields are clean, the tails in the sheet are;
-pub tails-clean : (y : ℕ) (s : List ℕ) (a : HeadAt) → Heads y s (Head-of.Head a) → SaysClean a → AllClean (tails_in s)
+pub tails-clean : (y : ℕ) (s : List ℕ) (a : HeadAt) → Heads y s (Ok a) → SaysClean a → AllClean (tails_in s)
 tails-clean y s a c k =
     let e = answer-of y s a c in
     record {
-      date = sym (ap (λ (x : HeadAt). x.date_clean) e) ∙ k.date;
-      designation = sym (ap (λ (x : HeadAt). x.designation_clean) e) ∙ k.designation;
-      title = sym (ap (λ (x : HeadAt). x.title_clean) e) ∙ k.title;
-      designation2 = sym (ap (λ (x : HeadAt). x.designation2_clean) e) ∙ k.designation2;
+      date = sym (ap (λ (x : HeadAt). x.date.clean) e) ∙ k.date;
+      designation = sym (ap (λ (x : HeadAt). x.designation.clean) e) ∙ k.designation;
+      title = sym (ap (λ (x : HeadAt). x.title.clean) e) ∙ k.title;
+      designation2 = sym (ap (λ (x : HeadAt). x.designation2.clean) e) ∙ k.designation2;
     }
 
 pub says_clean : (h : Head) → SaysClean (head_at h (clean_tails h))
@@ -86,11 +85,11 @@ says_clean h =
     record { date = c.date; designation = c.designation; title = c.title; designation2 = c.designation2 }
 
 -- and the bytes that a caller takes by it are that head.
-pub head_by_lem : (y : ℕ) (s : List ℕ) (a : HeadAt) → Heads y s (Head-of.Head a) → head_by s a ≡ head_in s
+pub head_by_lem : (y : ℕ) (s : List ℕ) (a : HeadAt) → Heads y s (Ok a) → head_by s a ≡ head_in s
 head_by_lem y s a c = ap (head_by s) (answer-of y s a c) ∙ head-taken s (tails_in s)
 
 -- They stand in the sheet.
-pub head-within : (y : ℕ) (s : List ℕ) (a : HeadAt) → Heads y s (Head-of.Head a) → HeadWithin s a
+pub head-within : (y : ℕ) (s : List ℕ) (a : HeadAt) → Heads y s (Ok a) → HeadWithin s a
 head-within y s a c =
     let g = by_headed (reading y s) a c in
     let k = seen_read y s g.0 g.1 in

@@ -15,3 +15,5 @@ pub mod Index
 pub mod Hop
 pub mod Rooms
 pub mod Trips
+-- what `is_ok` tells
+pub mod Answered

@@ -14,12 +14,10 @@ use Rattle.layout.specs.Walk.{Answer, given, refused}
 use Rattle.layout.specs.declared.Corners.{Corners}
 use Rattle.layout.specs.declared.Dimension.TheVariants.{Height}
 use Rattle.layout.specs.declared.Dimension.{Dimension}
-use Rattle.layout.specs.declared.ElementAnswer.TheVariants as Is
 use Rattle.layout.specs.declared.Number.{Number}
 use Rattle.layout.specs.declared.SheetUnit.TheVariants as Unit
 use Rattle.layout.specs.declared.SheetUnit.{SheetUnit}
 use Rattle.layout.specs.declared.Stored.{Stored}
-use Rattle.layout.specs.declared.UnitAnswer.TheVariants as Unit-of
 use Rattle.laws.proofs.Base.Lists.{all_drop, drop-take}
 use Rattle.laws.proofs.Base.Numbers.{number_lt}
 use Rattle.meanings.proofs.Measures as Law
@@ -28,8 +26,9 @@ use Rattle.meanings.specs.Coordinates.{coordinate_of}
 use Rattle.meanings.specs.Places.{first_none}
 use Rattle.meanings.specs.declared.coordinates.Coordinate.TheVariants as In
 use Rattle.meanings.specs.declared.coordinates.Coordinate.{Coordinate}
-use Rattle.meanings.specs.declared.coordinates.CoordinateAnswer.TheVariants as Answer
-use Rattle.meanings.specs.declared.coordinates.Height.{Height as HeightOf}
+use Rattle.meanings.specs.declared.coordinates.PointNumber.TheVariants as Of
+use Rattle.layout.specs.declared.HeightUnit.{HeightUnit}
+use Rattle.meanings.specs.declared.coordinates.Quantity.{Quantity}
 use Rattle.promises.proofs.Contracts.{Units, Cornered, Coordinates}
 use Rattle.promises.proofs.Heads.{head-is}
 use Rattle.promises.specs.Corners.{stored_at, stored_in}
@@ -39,6 +38,9 @@ use mathlib.Core.List.{List, [], ◌∷◌}
 use mathlib.Core.Path.{◌≡◌, refl, sym, ap, subst, ◌∙◌}
 use native.Mathlib.Nat.{suc-add}
 use native.Mathlib.Omega.{arith}
+use Rattle.std.specs.Prelude.{Ok}
+use Rattle.std.specs.Prelude.{Result, IfOk}
+use Rattle.layout.specs.declared.Refusal.{Refusal}
 
 number-take : (n m : ℕ) (l : List ℕ) → number n (take (n + m) l) ≡ number n l
 number-take zero m l = refl
@@ -80,7 +82,7 @@ words s bs =
     }
 
 by_answer : (s : List ℕ) → Bytes s → (a : Answer Sheet) → ((u : Sheet) → a ≡ given u → u.head ≡ head_in s)
-    → Keeps (stored_in s) (corners_in a) (first_none (stored_in s))
+    → IfOk (corners_in a) (λ c. Keeps (stored_in s) c (first_none (stored_in s)))
 unfolding corners_in
 by_answer s bs (given u) f =
     let bits : corner_bits u.head.rest ≡ stored_in s = ap (λ (h : Head). corner_bits h.rest) (f u refl) ∙ in_rest_lem s in
@@ -89,19 +91,20 @@ by_answer s bs (refused n p z) f = tt
 
 -- `corners_of` answers eight doubles, each with the bits that stand in the sheet at its place, field by field; or, where one is a NaN, these
 -- bits themselves with the place of the first.
-pub corners-stored : (y : ℕ) (s : List ℕ) → Bytes s → (r : Corners) → Cornered y s r → Keeps (stored_in s) r (first_none (stored_in s))
-corners-stored y s bs r c = subst (λ m. Keeps (stored_in s) m (first_none (stored_in s))) (sym c) (by_answer s bs (reading y s) (λ u e. sym (head-is y s u e)))
+pub corners-stored : (y : ℕ) (s : List ℕ) → Bytes s → (r : Result Corners Refusal) → Cornered y s r
+    → IfOk r (λ c. Keeps (stored_in s) c (first_none (stored_in s)))
+corners-stored y s bs r c = subst (λ m. IfOk m (λ c. Keeps (stored_in s) c (first_none (stored_in s)))) (sym c) (by_answer s bs (reading y s) (λ u e. sym (head-is y s u e)))
 
-unit_back : (a : Answer Sheet) (u : SheetUnit) → Unit-of.Unit u ≡ unit_in a → (t : Sheet) × (a ≡ given t) × (u ≡ sheet_unit t.head)
+unit_back : (a : Answer Sheet) (u : SheetUnit) → Ok u ≡ unit_in a → (t : Sheet) × (a ≡ given t) × (u ≡ sheet_unit t.head)
 unfolding unit_in
 unit_back (given t) u e = (t, refl, cc)
 unit_back (refused n p y) u e = absurd (let q : ◌≡◌ {A = ℕ} 0 1 = cc in omega arith)
 
 -- The unit that `unit_of` answers of a sheet is the one of its coordinates: what `coordinate_of` makes of stored bits with the bytes that the caller
 -- takes from that sheet is the number of the element that these bits are, in the unit's own type.
-pub in_sheet-unit : (y : ℕ) (s : List ℕ) (u : SheetUnit) → Units y s (Unit-of.Unit u)
-    → (reference : ℕ) (d : Dimension) (bits : ℕ) (c : Coordinate) → Coordinates (bytes_in Passport.rest s) reference d bits (Answer.Plane c)
-    → (e : Stored) × (element_of reference d bits ≡ Is.Element e) × (c ≡ coordinate_of u (number_of e))
+pub in_sheet-unit : (y : ℕ) (s : List ℕ) (u : SheetUnit) → Units y s (Ok u)
+    → (reference : ℕ) (d : Dimension) (bits : ℕ) (c : Coordinate) → Coordinates (bytes_in Passport.rest s) reference d bits (Ok (Of.Plane c))
+    → (e : Stored) × (element_of reference d bits ≡ Ok e) × (c ≡ coordinate_of u (number_of e))
 in_sheet-unit y s u e reference d bits c w =
     let t = unit_back (reading y s) u e in
     let own : u ≡ rest_unit (bytes_in Passport.rest s) = t.2 ∙ ap sheet_unit (sym (head-is y s t.0 t.1)) in
@@ -109,21 +112,21 @@ in_sheet-unit y s u e reference d bits c w =
     (made.0, made.1, made.2 ∙ ap (λ v. coordinate_of v (number_of made.0)) (sym own))
 
 -- So a coordinate of a sheet in device points comes out as nothing else.
-pub device_points : (y : ℕ) (s : List ℕ) → Units y s (Unit-of.Unit Unit.DevicePoints)
-    → (reference : ℕ) (d : Dimension) (bits : ℕ) (c : Coordinate) → Coordinates (bytes_in Passport.rest s) reference d bits (Answer.Plane c)
-    → (n : Number) × (c ≡ In.DevicePoints (record { 0 = n }))
+pub device_points : (y : ℕ) (s : List ℕ) → Units y s (Ok Unit.DevicePoints)
+    → (reference : ℕ) (d : Dimension) (bits : ℕ) (c : Coordinate) → Coordinates (bytes_in Passport.rest s) reference d bits (Ok (Of.Plane c))
+    → (n : Number) × (c ≡ In.DevicePoints (record { «unit» = record {}; number = n }))
 unfolding coordinate_of
 device_points y s e reference d bits c w =
     let made = in_sheet-unit y s Unit.DevicePoints e reference d bits c w in
     (number_of made.0, made.2)
 
 -- A height is the number of its element, in the unit that the sheet's own byte for heights names, whatever the plane's is.
-pub height_in_sheet : (s : List ℕ) (reference : ℕ) (d : Dimension) (bits : ℕ) (x : HeightOf)
-    → Coordinates (bytes_in Passport.rest s) reference d bits (Answer.Height x)
-    → (d ≡ Height) × ((e : Stored) × (element_of reference d bits ≡ Is.Element e)
-    × (x ≡ record { 0 = height_unit_of (number_in Passport.height_unit s); 1 = number_of e }))
+pub height_in_sheet : (s : List ℕ) (reference : ℕ) (d : Dimension) (bits : ℕ) (x : Quantity HeightUnit)
+    → Coordinates (bytes_in Passport.rest s) reference d bits (Ok (Of.Height x))
+    → (d ≡ Height) × ((e : Stored) × (element_of reference d bits ≡ Ok e)
+    × (x ≡ record { «unit» = height_unit_of (number_in Passport.height_unit s); number = number_of e }))
 height_in_sheet s reference d bits x w =
     let made = Law.height_in_unit (bytes_in Passport.rest s) reference d bits x (sym w) in
     let byte = in_part 1 (Passport.in_rest Passport.height_unit).place 162 (Passport.rest).place s in
     let e = made.1.0 in
-    (made.0, (e, made.1.1, made.1.2 ∙ ap (λ (b : ℕ). record { 0 = height_unit_of b; 1 = number_of e }) byte))
+    (made.0, (e, made.1.1, made.1.2 ∙ ap (λ (b : ℕ). record { «unit» = height_unit_of b; number = number_of e }) byte))

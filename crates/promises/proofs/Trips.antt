@@ -20,15 +20,9 @@ use Rattle.layout.specs.Sheet.{Head, Sheet, Table}
 use Rattle.layout.specs.Walk.{given}
 use Rattle.layout.specs.Writing.Tables.{table}
 use Rattle.layout.specs.Years.{is_setting}
-use Rattle.layout.specs.declared.Checked.TheVariants as Check
-use Rattle.layout.specs.declared.Checked.{Checked}
 use Rattle.layout.specs.declared.HeadAt.{HeadAt}
-use Rattle.layout.specs.declared.Headed.TheVariants as Head-of
-use Rattle.layout.specs.declared.Headed.{Headed}
 use Rattle.layout.specs.declared.Refusal.{Refusal}
 use Rattle.layout.specs.declared.Sizes.{Sizes}
-use Rattle.layout.specs.declared.Written.TheVariants as Write
-use Rattle.layout.specs.declared.Written.{Written}
 use Rattle.laws.proofs.Again.{clean-same}
 use Rattle.laws.proofs.Writing.Sheets.{Typed}
 use Rattle.promises.proofs.Again.{length-within, read_again, unfold_again, table-within, heads_too, written_again}
@@ -37,15 +31,16 @@ use Rattle.promises.proofs.Heads.{head-within}
 use Rattle.promises.proofs.Later.{unfolds_at}
 use Rattle.promises.proofs.Rooms.{Fit, roomy_back}
 use Rattle.promises.specs.Hands.{text_by, head_by, HeadWithin, table_by, TableWithin}
+use Rattle.std.specs.Prelude.{Result, Ok, Err}
 
 -- a refusal is no success
-unlike_written : (q : Refusal) (n : ℕ) → ¬ (Write.Refused q ≡ Write.Length n)
+unlike_written : (q : Refusal) (n : ℕ) → ¬ (Err q ≡ Ok n)
 unlike_written q n e = let i : ◌≡◌ {A = ℕ} 0 1 = cc in omega arith
 
-unlike_accepted : (q : Refusal) (z : Sizes) → ¬ (Check.Refused q ≡ Check.Accepted z)
+unlike_accepted : (q : Refusal) (z : Sizes) → ¬ (Err q ≡ Ok z)
 unlike_accepted q z e = let i : ◌≡◌ {A = ℕ} 0 1 = cc in omega arith
 
-unlike_head : (q : Refusal) (a : HeadAt) → ¬ (Head-of.Refused q ≡ Head-of.Head a)
+unlike_head : (q : Refusal) (a : HeadAt) → ¬ (Err q ≡ Ok a)
 unlike_head q a e = let i : ◌≡◌ {A = ℕ} 0 1 = cc in omega arith
 
 -- `rest_of` and `carried_of`: a field of a sheet, copied into an array of its width that held zeros, is all of the array
@@ -59,15 +54,15 @@ field_copied f s within =
 
 -- `write_read`: each part of the head and of the table is what a caller takes
 pub passed_on : (y : ℕ) (s : List ℕ) (a : HeadAt) (date designation title rest designation2 carried : List ℕ)
-    → date ≡ text_by Passport.date a.date s
-    → designation ≡ text_by Passport.designation a.designation s
-    → title ≡ text_by Passport.title a.title s
+    → date ≡ text_by Passport.date a.date.length s
+    → designation ≡ text_by Passport.designation a.designation.length s
+    → title ≡ text_by Passport.title a.title.length s
     → rest ≡ bytes_in Passport.rest s
-    → designation2 ≡ text_by Descriptor.designation a.designation2 s
+    → designation2 ≡ text_by Descriptor.designation a.designation2.length s
     → carried ≡ bytes_in Descriptor.carried s
     → (z : Sizes) (t e b numbers elements bytes : List ℕ)
     → numbers ≡ take z.numbers t → elements ≡ take z.elements e → bytes ≡ take z.bytes b
-    → (o out : List ℕ) (r : Written) → Writes y (head_of date designation a.scale title rest designation2 carried) (table numbers elements bytes) o out r
+    → (o out : List ℕ) (r : Result ℕ Refusal) → Writes y (head_of date designation a.scale title rest designation2 carried) (table numbers elements bytes) o out r
     → Writes y (head_by s a) (table_by z t e b) o out r
 passed_on y s a date designation title rest designation2 carried k₀ k₁ k₂ k₃ k₄ k₅ z t e b numbers elements bytes l₀ l₁ l₂ o out r w =
     let head : head_of date designation a.scale title rest designation2 carried ≡ head_by s a =
@@ -77,13 +72,13 @@ passed_on y s a date designation title rest designation2 carried k₀ k₁ k₂ 
     (subst (λ x. Writes y (head_of date designation a.scale title rest designation2 carried) x o out r) taken w)
 
 -- `read_back`: a call of `write`, and one of `unfold` with what it wrote, at that year or a later one
-module _ (y : ℕ) (h : Head) (t : Table) (o out : List ℕ) (v : Written) (w : Writes y h t o out v) where
-  pub never_unwritten : (s : List ℕ) → written y h t (length o) ≡ given s → (q : Refusal) → ¬ (v ≡ Write.Refused q)
+module _ (y : ℕ) (h : Head) (t : Table) (o out : List ℕ) (v : Result ℕ Refusal) (w : Writes y h t o out v) where
+  pub never_unwritten : (s : List ℕ) → written y h t (length o) ≡ given s → (q : Refusal) → ¬ (v ≡ Err q)
   unfolding written_of
   never_unwritten s e q g = unlike_written q (length s) (sym g ∙ w.0 ∙ ap written_of e)
 
-  module _ (n : ℕ) (is : v ≡ Write.Length n) where
-    wrote : Writes y h t o out (Write.Length n)
+  module _ (n : ℕ) (is : v ≡ Ok n) where
+    wrote : Writes y h t o out (Ok n)
     wrote = subst (λ x. Writes y h t o out x) is w
 
     -- as `part` asks it, from place 0 on
@@ -91,39 +86,39 @@ module _ (y : ℕ) (h : Head) (t : Table) (o out : List ℕ) (v : Written) (w : 
     sheet-within = omega (arith, length-within y h t o out n wrote)
 
     module _ (typed : Typed h) (bs : Bytes t.bytes) (p : List ℕ) (part : p ≡ take n out) (z : ℕ) (ok : is_setting z ≡ true) (after : y ≤ z)
-        (t₀ e₀ b₀ t₁ e₁ b₁ : List ℕ) (r : Checked) (c : Unfolds z p t₀ e₀ b₀ t₁ e₁ b₁ r) (f : Fit (rooms t₀ e₀ b₀) t) where
+        (t₀ e₀ b₀ t₁ e₁ b₁ : List ℕ) (r : Result Sizes Refusal) (c : Unfolds z p t₀ e₀ b₀ t₁ e₁ b₁ r) (f : Fit (rooms t₀ e₀ b₀) t) where
       read : Unfolds y (take n out) t₀ e₀ b₀ t₁ e₁ b₁ r
       read = unfolds_at y h t o out n wrote typed bs z ok after t₀ e₀ b₀ t₁ e₁ b₁ r (subst (λ x. Unfolds z x t₀ e₀ b₀ t₁ e₁ b₁ r) part c)
 
       pub back_filled : (t₁ ≡ over t.numbers t₀) × (e₁ ≡ over t.elements e₀) × (b₁ ≡ over t.bytes b₀)
       back_filled = read_again y h t o out n wrote typed bs t₀ e₀ b₀ t₁ e₁ b₁ r read f
 
-      pub never_refused : (q : Refusal) → ¬ (r ≡ Check.Refused q)
+      pub never_refused : (q : Refusal) → ¬ (r ≡ Err q)
       never_refused q g =
           let a = unfold_again y h t o out n wrote typed bs t₀ e₀ b₀ t₁ e₁ b₁ r read f in
           unlike_accepted q (sizes_of a.0) (sym g ∙ a.3)
 
 -- `write_back`: a call of `unfold`, one of `head_of`, and one of `write` with what they gave
-module _ (y : ℕ) (s t₀ e₀ b₀ t₁ e₁ b₁ : List ℕ) (v : Checked) (f : Unfolds y s t₀ e₀ b₀ t₁ e₁ b₁ v) where
-  pub never_folded : (u : Sheet) → roomy y s (rooms t₀ e₀ b₀) ≡ given u → (q : Refusal) → ¬ (v ≡ Check.Refused q)
+module _ (y : ℕ) (s t₀ e₀ b₀ t₁ e₁ b₁ : List ℕ) (v : Result Sizes Refusal) (f : Unfolds y s t₀ e₀ b₀ t₁ e₁ b₁ v) where
+  pub never_folded : (u : Sheet) → roomy y s (rooms t₀ e₀ b₀) ≡ given u → (q : Refusal) → ¬ (v ≡ Err q)
   unfolding checked_of
   never_folded u e q g = unlike_accepted q (sizes_of u) (sym g ∙ f.0 ∙ ap checked_of e)
 
-  module _ (z : Sizes) (is : v ≡ Check.Accepted z) where
-    filled : Unfolds y s t₀ e₀ b₀ t₁ e₁ b₁ (Check.Accepted z)
+  module _ (z : Sizes) (is : v ≡ Ok z) where
+    filled : Unfolds y s t₀ e₀ b₀ t₁ e₁ b₁ (Ok z)
     filled = subst (λ x. Unfolds y s t₀ e₀ b₀ t₁ e₁ b₁ x) is f
 
-    module _ (k : Headed) (c : Heads y s k) where
-      pub never_headless : (q : Refusal) → ¬ (k ≡ Head-of.Refused q)
+    module _ (k : Result HeadAt Refusal) (c : Heads y s k) where
+      pub never_headless : (q : Refusal) → ¬ (k ≡ Err q)
       never_headless q g = unlike_head q (head_at (head_in s) (tails_in s)) (sym g ∙ heads_too y s t₀ e₀ b₀ t₁ e₁ b₁ z filled k c)
 
-      module _ (a : HeadAt) (head : k ≡ Head-of.Head a) where
+      module _ (a : HeadAt) (head : k ≡ Ok a) where
         -- what is passed on to the writer stands in the sheet and in the slices
         pub passed-within : HeadWithin s a × TableWithin z t₁ e₁ b₁
         passed-within = (head-within y s a (sym head ∙ c), table-within y s t₀ e₀ b₀ t₁ e₁ b₁ z filled)
 
-        module _ (bs : Bytes s) (o out : List ℕ) (r : Written) (room : length s ≤ length o) (d : Writes y (head_by s a) (table_by z t₁ e₁ b₁) o out r) where
-          back : (r ≡ Write.Length (length s)) × (out ≡ over (cleared s) o)
+        module _ (bs : Bytes s) (o out : List ℕ) (r : Result ℕ Refusal) (room : length s ≤ length o) (d : Writes y (head_by s a) (table_by z t₁ e₁ b₁) o out r) where
+          back : (r ≡ Ok (length s)) × (out ≡ over (cleared s) o)
           back = written_again y s t₀ e₀ b₀ t₁ e₁ b₁ z filled bs a (sym head ∙ c) o out r room d
 
           pub back_written : (u : Sheet) → roomy y s (rooms t₀ e₀ b₀) ≡ given u → (out ≡ over (cleared s) o) × (AllClean u.tails → out ≡ over s o)
@@ -132,5 +127,5 @@ module _ (y : ℕ) (s t₀ e₀ b₀ t₁ e₁ b₁ : List ℕ) (v : Checked) (f
             λ clean. back.1 ∙ ap (λ x. over x o) (clean-same y s bs u (roomy_back y s (rooms t₀ e₀ b₀) u e).0 clean),
           )
 
-          pub never_short : (q : Refusal) → ¬ (r ≡ Write.Refused q)
+          pub never_short : (q : Refusal) → ¬ (r ≡ Err q)
           never_short q g = unlike_written q (length s) (sym g ∙ back.0)

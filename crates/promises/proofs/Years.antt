@@ -23,25 +23,19 @@ use Rattle.layout.specs.Walk.{Answer, given, refused, Met, met, Late, none, late
 use Rattle.layout.specs.Writing.Sheets.{table_walk}
 use Rattle.layout.specs.Writing.Tables.{flatten}
 use Rattle.layout.specs.Years.{is_setting}
-use Rattle.layout.specs.declared.Checked.TheVariants as Check
-use Rattle.layout.specs.declared.Checked.{Checked}
-use Rattle.layout.specs.declared.CornerBits.{CornerBits}
-use Rattle.layout.specs.declared.Corners.TheVariants as Corner
+use Rattle.layout.specs.declared.PlaneCorners.{PlaneCorners}
 use Rattle.layout.specs.declared.Corners.{Corners}
-use Rattle.layout.specs.declared.Found.TheVariants as Find
-use Rattle.layout.specs.declared.Found.{Found}
-use Rattle.layout.specs.declared.Headed.TheVariants as Head-of
-use Rattle.layout.specs.declared.Headed.{Headed}
 use Rattle.layout.specs.declared.Refusal.{Refusal}
-use Rattle.layout.specs.declared.UnitAnswer.TheVariants as Unit-of
-use Rattle.layout.specs.declared.UnitAnswer.{UnitAnswer}
-use Rattle.layout.specs.declared.Written.TheVariants as Write
-use Rattle.layout.specs.declared.Written.{Written}
 use Rattle.laws.proofs.Base.Lists.{cond_both}
 use Rattle.laws.proofs.Years as Law
 use Rattle.laws.proofs.Written.{by_refusal}
 use Rattle.laws.proofs.Years.Walks.{FirstAt, first-late, none-late}
 use Rattle.promises.proofs.Contracts.{Checks, Heads, Units, Cornered, Finds, Unfolds, Writes}
+use Rattle.layout.specs.declared.Sizes.{Sizes}
+use Rattle.layout.specs.declared.RecordAt.{RecordAt}
+use Rattle.layout.specs.declared.HeadAt.{HeadAt}
+use Rattle.layout.specs.declared.SheetUnit.{SheetUnit}
+use Rattle.std.specs.Prelude.{Result, Err}
 
 -- what is told of a late feature, if there is one, and else q
 abbrev pub unless_late : {X : Type 0} → Late → (ℕ → ℕ → X) → X → X
@@ -72,30 +66,30 @@ module _ (y : ℕ) (ok : is_setting y ≡ true) (s : List ℕ) where
   abbrev pub first : Late
   first = first_late y (met (sheet_walk s))
 
-  pub check_years : (r q : Checked) → Checks y s r → Checks 2017 s q → r ≡ unless_late first (λ p z. Check.Refused (too_new p z)) q
+  pub check_years : (r q : Result Sizes Refusal) → Checks y s r → Checks 2017 s q → r ≡ unless_late first (λ p z. Err (too_new p z)) q
   unfolding checked_of
   check_years = told checked_of _ (λ p z. refl) first _ _ (Law.years s y ok)
 
-  pub head-years : (r q : Headed) → Heads y s r → Heads 2017 s q → r ≡ unless_late first (λ p z. Head-of.Refused (too_new p z)) q
+  pub head-years : (r q : Result HeadAt Refusal) → Heads y s r → Heads 2017 s q → r ≡ unless_late first (λ p z. Err (too_new p z)) q
   unfolding headed_of
   head-years = told headed_of _ (λ p z. refl) first _ _ (Law.years s y ok)
 
-  pub unit-years : (r q : UnitAnswer) → Units y s r → Units 2017 s q → r ≡ unless_late first (λ p z. Unit-of.Refused (too_new p z)) q
+  pub unit-years : (r q : Result SheetUnit Refusal) → Units y s r → Units 2017 s q → r ≡ unless_late first (λ p z. Err (too_new p z)) q
   unfolding unit_in
   unit-years = told unit_in _ (λ p z. refl) first _ _ (Law.years s y ok)
 
-  pub corners-years : (r q : Corners) → Cornered y s r → Cornered 2017 s q → r ≡ unless_late first (λ p z. Corner.Refused (too_new p z)) q
+  pub corners-years : (r q : Result Corners Refusal) → Cornered y s r → Cornered 2017 s q → r ≡ unless_late first (λ p z. Err (too_new p z)) q
   unfolding corners_in
   corners-years = told corners_in _ (λ p z. refl) first _ _ (Law.years s y ok)
 
-  pub record_years_lem : (number : ℕ) (r q : Found) → Finds y s number r → Finds 2017 s number q
-      → r ≡ unless_late first (λ p z. Find.Refused (too_new p z)) q
+  pub record_years_lem : (number : ℕ) (r q : Result RecordAt Refusal) → Finds y s number r → Finds 2017 s number q
+      → r ≡ unless_late first (λ p z. Err (too_new p z)) q
   unfolding found_of
   record_years_lem number = told found_of _ (λ p z. refl) first _ _ (Law.years-asked s number y ok)
 
   -- where a late feature is met the slices stay as they were
-  pub unfold_years : (t₀ e₀ b₀ t₁ e₁ b₁ t₂ e₂ b₂ : List ℕ) (r q : Checked) → Unfolds y s t₀ e₀ b₀ t₁ e₁ b₁ r → Unfolds 2017 s t₀ e₀ b₀ t₂ e₂ b₂ q
-      → (r ≡ unless_late first (λ p z. Check.Refused (too_new p z)) q)
+  pub unfold_years : (t₀ e₀ b₀ t₁ e₁ b₁ t₂ e₂ b₂ : List ℕ) (r q : Result Sizes Refusal) → Unfolds y s t₀ e₀ b₀ t₁ e₁ b₁ r → Unfolds 2017 s t₀ e₀ b₀ t₂ e₂ b₂ q
+      → (r ≡ unless_late first (λ p z. Err (too_new p z)) q)
       × (t₁ ≡ unless_late first (λ p z. t₀) t₂) × (e₁ ≡ unless_late first (λ p z. e₀) e₂) × (b₁ ≡ unless_late first (λ p z. b₀) b₂)
   unfolding checked_of
   unfold_years t₀ e₀ b₀ t₁ e₁ b₁ t₂ e₂ b₂ r q c d =
@@ -107,9 +101,9 @@ module _ (y : ℕ) (ok : is_setting y ≡ true) (s : List ℕ) where
       )
 
 -- the writer
-pub write_years : (y : ℕ) → is_setting y ≡ true → (h : Head) (t : Table) (o out new : List ℕ) (r q : Written)
+pub write_years : (y : ℕ) → is_setting y ≡ true → (h : Head) (t : Table) (o out new : List ℕ) (r q : Result ℕ Refusal)
     → Writes y h t o out r → Writes 2017 h t o new q
-    → (r ≡ unless_late (first_late y (met (table_walk h t))) (λ p z. Write.Refused (too_new p z)) q)
+    → (r ≡ unless_late (first_late y (met (table_walk h t))) (λ p z. Err (too_new p z)) q)
     × (out ≡ unless_late (first_late y (met (table_walk h t))) (λ p z. o) new)
 unfolding written_of
 write_years y ok h t o out new r q c d =
@@ -125,28 +119,28 @@ module _ (y : ℕ) (other : is_setting y ≡ false) (s : List ℕ) where
   not_read : {B : Type 0} (f : Sheet → Answer B) → and_then (reading y s) f ≡ refused ASK 0 0
   not_read f = ap (λ a. and_then a f) (Law.no_setting s y other)
 
-  pub check_ask : (r : Checked) → Checks y s r → r ≡ Check.Refused ask
+  pub check_ask : (r : Result Sizes Refusal) → Checks y s r → r ≡ Err ask
   unfolding checked_of
   check_ask r c = c ∙ ap checked_of (Law.no_setting s y other)
 
-  pub head-ask : (r : Headed) → Heads y s r → r ≡ Head-of.Refused ask
+  pub head-ask : (r : Result HeadAt Refusal) → Heads y s r → r ≡ Err ask
   unfolding headed_of
   head-ask r c = c ∙ ap headed_of (Law.no_setting s y other)
 
-  pub unit-ask : (r : UnitAnswer) → Units y s r → r ≡ Unit-of.Refused ask
+  pub unit-ask : (r : Result SheetUnit Refusal) → Units y s r → r ≡ Err ask
   unfolding unit_in
   unit-ask r c = c ∙ ap unit_in (Law.no_setting s y other)
 
-  pub corners-ask : (r : Corners) → Cornered y s r → r ≡ Corner.Refused ask
+  pub corners-ask : (r : Result Corners Refusal) → Cornered y s r → r ≡ Err ask
   unfolding corners_in
   corners-ask r c = c ∙ ap corners_in (Law.no_setting s y other)
 
-  pub record_ask : (number : ℕ) (r : Found) → Finds y s number r → r ≡ Find.Refused ask
+  pub record_ask : (number : ℕ) (r : Result RecordAt Refusal) → Finds y s number r → r ≡ Err ask
   unfolding found_of asked
   record_ask number r c = c ∙ ap found_of (not_read (λ t. record_of start t.records number))
 
-  pub unfold_ask : (t₀ e₀ b₀ t₁ e₁ b₁ : List ℕ) (r : Checked) → Unfolds y s t₀ e₀ b₀ t₁ e₁ b₁ r
-      → (r ≡ Check.Refused ask) × (t₁ ≡ t₀) × (e₁ ≡ e₀) × (b₁ ≡ b₀)
+  pub unfold_ask : (t₀ e₀ b₀ t₁ e₁ b₁ : List ℕ) (r : Result Sizes Refusal) → Unfolds y s t₀ e₀ b₀ t₁ e₁ b₁ r
+      → (r ≡ Err ask) × (t₁ ≡ t₀) × (e₁ ≡ e₀) × (b₁ ≡ b₀)
   unfolding checked_of roomy unfolded
   unfold_ask t₀ e₀ b₀ t₁ e₁ b₁ r c =
       let m = rooms t₀ e₀ b₀ in
@@ -157,75 +151,62 @@ module _ (y : ℕ) (other : is_setting y ≡ false) (s : List ℕ) where
         c.1.1.1 ∙ ap (λ a. lent the_bytes a b₀) filled,
       )
 
-pub write_ask : (y : ℕ) → is_setting y ≡ false → (h : Head) (t : Table) (o out : List ℕ) (r : Written) → Writes y h t o out r
-    → (r ≡ Write.Refused ask) × (out ≡ o)
+pub write_ask : (y : ℕ) → is_setting y ≡ false → (h : Head) (t : Table) (o out : List ℕ) (r : Result ℕ Refusal) → Writes y h t o out r
+    → (r ≡ Err ask) × (out ≡ o)
 unfolding written_of
 write_ask y other h t o out r c =
     let e = Law.no_setting-written h t (length o) y other in
     (c.0 ∙ ap written_of e, c.1 ∙ ap (λ a. lent the_sheet a o) e)
 
 -- At 2017 no call answers TOO NEW. First which refusal a call tells of.
-checked_back : (a : Answer Sheet) (q : Refusal) → Check.Refused q ≡ checked_of a → a ≡ refused q.number q.place q.year
+checked_back : (a : Answer Sheet) (q : Refusal) → Err q ≡ checked_of a → a ≡ refused q.reason q.place q.year
 unfolding checked_of
 checked_back (given t) q e = absurd (let i : ◌≡◌ {A = ℕ} 0 1 = cc in omega arith)
 checked_back (refused n p y) q e = cc
 
-pub check_2017 : (s : List ℕ) (place year : ℕ) (q : Checked) → Checks 2017 s q → ¬ (q ≡ Check.Refused (too_new place year))
+pub check_2017 : (s : List ℕ) (place year : ℕ) (q : Result Sizes Refusal) → Checks 2017 s q → ¬ (q ≡ Err (too_new place year))
 check_2017 s place year q c e = Law.at_2017 s place year (checked_back (reading 2017 s) (too_new place year) (sym e ∙ c))
 
-headed_back : (a : Answer Sheet) (q : Refusal) → Head-of.Refused q ≡ headed_of a → a ≡ refused q.number q.place q.year
+headed_back : (a : Answer Sheet) (q : Refusal) → Err q ≡ headed_of a → a ≡ refused q.reason q.place q.year
 unfolding headed_of
 headed_back (given t) q e = absurd (let i : ◌≡◌ {A = ℕ} 0 1 = cc in omega arith)
 headed_back (refused n p y) q e = cc
 
-pub head_2017 : (s : List ℕ) (place year : ℕ) (q : Headed) → Heads 2017 s q → ¬ (q ≡ Head-of.Refused (too_new place year))
+pub head_2017 : (s : List ℕ) (place year : ℕ) (q : Result HeadAt Refusal) → Heads 2017 s q → ¬ (q ≡ Err (too_new place year))
 head_2017 s place year q c e = Law.at_2017 s place year (headed_back (reading 2017 s) (too_new place year) (sym e ∙ c))
 
-unit_back : (a : Answer Sheet) (q : Refusal) → Unit-of.Refused q ≡ unit_in a → a ≡ refused q.number q.place q.year
+unit_back : (a : Answer Sheet) (q : Refusal) → Err q ≡ unit_in a → a ≡ refused q.reason q.place q.year
 unfolding unit_in
 unit_back (given t) q e = absurd (let i : ◌≡◌ {A = ℕ} 0 1 = cc in omega arith)
 unit_back (refused n p y) q e = cc
 
-pub unit_2017 : (s : List ℕ) (place year : ℕ) (q : UnitAnswer) → Units 2017 s q → ¬ (q ≡ Unit-of.Refused (too_new place year))
+pub unit_2017 : (s : List ℕ) (place year : ℕ) (q : Result SheetUnit Refusal) → Units 2017 s q → ¬ (q ≡ Err (too_new place year))
 unit_2017 s place year q c e = Law.at_2017 s place year (unit_back (reading 2017 s) (too_new place year) (sym e ∙ c))
 
--- corners that are read are no refusal
-never_corners : (place : ℕ) (l : List ℕ) (c : CornerBits) (q : Refusal) → ¬ (Corner.Refused q ≡ corners_from place l c)
-never_corners place [] c q = λ e. let i : ◌≡◌ {A = ℕ} 0 1 = cc in omega arith
-never_corners place (b ∷ l) c q =
-    cond_both (λ x. ¬ (Corner.Refused q ≡ x)) (nan_bits binary64 b) (Corner.Bits place c) (corners_from (place + 8) l c)
-    (λ _ e. let i : ◌≡◌ {A = ℕ} 0 1 = cc in omega arith) (λ _. never_corners (place + 8) l c q)
-
-never_plane : (c : CornerBits) (q : Refusal) → ¬ (Corner.Refused q ≡ corners_of c)
-unfolding corners_of
-never_plane c q =
-    never_corners (Passport.corners).place
-    (c.sw_x ∷ c.sw_y ∷ c.nw_x ∷ c.nw_y ∷ c.ne_x ∷ c.ne_y ∷ c.se_x ∷ c.se_y ∷ []) c q
-
-corners_back : (a : Answer Sheet) (q : Refusal) → Corner.Refused q ≡ corners_in a → a ≡ refused q.number q.place q.year
+corners_back : (a : Answer Sheet) (q : Refusal) → Err q ≡ corners_in a → a ≡ refused q.reason q.place q.year
 unfolding corners_in
-corners_back (given t) q e = absurd (never_plane (corner_bits t.head.rest) q e)
+corners_back (given t) q e = absurd (let i : ◌≡◌ {A = ℕ} 0 1 = cc in omega arith)
 corners_back (refused n p y) q e = cc
 
-pub corners_2017 : (s : List ℕ) (place year : ℕ) (q : Corners) → Cornered 2017 s q → ¬ (q ≡ Corner.Refused (too_new place year))
+pub corners_2017 : (s : List ℕ) (place year : ℕ) (q : Result Corners Refusal) → Cornered 2017 s q → ¬ (q ≡ Err (too_new place year))
 corners_2017 s place year q c e = Law.at_2017 s place year (corners_back (reading 2017 s) (too_new place year) (sym e ∙ c))
 
-found_back : (a : Answer Placed) (q : Refusal) → Find.Refused q ≡ found_of a → a ≡ refused q.number q.place q.year
+found_back : (a : Answer Placed) (q : Refusal) → Err q ≡ found_of a → a ≡ refused q.reason q.place q.year
 unfolding found_of
 found_back (given t) q e = absurd (let i : ◌≡◌ {A = ℕ} 0 1 = cc in omega arith)
 found_back (refused n p y) q e = cc
 
-pub record_2017 : (s : List ℕ) (number place year : ℕ) (q : Found) → Finds 2017 s number q → ¬ (q ≡ Find.Refused (too_new place year))
+pub record_2017 : (s : List ℕ) (number place year : ℕ) (q : Result RecordAt Refusal) → Finds 2017 s number q → ¬ (q ≡ Err (too_new place year))
 record_2017 s number place year q c e =
     Law.at_2017_asked s number place year (found_back (asked 2017 s number) (too_new place year) (sym e ∙ c))
 
-pub unfold_2017 : (s t₀ e₀ b₀ t₁ e₁ b₁ : List ℕ) (place year : ℕ) (q : Checked) → Unfolds 2017 s t₀ e₀ b₀ t₁ e₁ b₁ q
-    → ¬ (q ≡ Check.Refused (too_new place year))
+pub unfold_2017 : (s t₀ e₀ b₀ t₁ e₁ b₁ : List ℕ) (place year : ℕ) (q : Result Sizes Refusal) → Unfolds 2017 s t₀ e₀ b₀ t₁ e₁ b₁ q
+    → ¬ (q ≡ Err (too_new place year))
 unfold_2017 s t₀ e₀ b₀ t₁ e₁ b₁ place year q c e =
     let r = rooms t₀ e₀ b₀ in
     Law.at_2017_roomy s r place year (checked_back (roomy 2017 s r) (too_new place year) (sym e ∙ c.0))
 
-pub write_2017 : (h : Head) (t : Table) (o out : List ℕ) (place year : ℕ) (q : Written) → Writes 2017 h t o out q
-    → ¬ (q ≡ Write.Refused (too_new place year))
+pub write_2017 : (h : Head) (t : Table) (o out : List ℕ) (place year : ℕ) (q : Result ℕ Refusal) → Writes 2017 h t o out q
+    → ¬ (q ≡ Err (too_new place year))
 write_2017 h t o out place year q c e =
     Law.at_2017_written h t (length o) place year (by_refusal (written 2017 h t (length o)) (too_new place year) (sym e ∙ c.0))

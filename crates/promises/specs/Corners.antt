@@ -2,14 +2,14 @@
 use Rattle.std.specs.Prelude.{List, ℕ, ◌+◌, ◌*◌}
 use Rattle.layout.specs.Bytes.{field, number_in}
 use Rattle.layout.specs.Fields.Passport
-use Rattle.layout.specs.declared.CornerBits.{CornerBits}
+use Rattle.layout.specs.declared.PlaneCorners.{PlaneCorners}
 
 -- the bits of the n-th of the eight doubles, from 0, at its place in the sheet
 abbrev pub stored_at : List ℕ → ℕ → ℕ
 stored_at s n = number_in (field ((Passport.corners).place + 8 * n) 8) s
 
 -- X and Y of the south-west, north-west, north-east and south-east corner
-abbrev pub stored_in : List ℕ → CornerBits
+abbrev pub stored_in : List ℕ → PlaneCorners ℕ
 stored_in s =
     record {
       sw_x = stored_at s 0;

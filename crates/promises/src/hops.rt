@@ -9,20 +9,20 @@ ghost use Rattle.layout.specs.Walk.{given};
 
 use crate::lent;
 use hop::sheets;
-use layout::Hopped;
+use layout::{Hop, Refusal};
 
 // The first record with a code, of a sheet that is accepted at some setting.
-pub fn first_kept(s: &[u8], code: u32) -> Hopped
-    ensures { (year : ℕ) (t : Sheet) → reading year s.now ≡ given t → result ≡ Hopped.Hop (first_with code 0 start t.records) }
+pub fn first_kept(s: &[u8], code: u32) -> Result<Hop, Refusal>
+    ensures { (year : ℕ) (t : Sheet) → reading year s.now ≡ given t → result ≡ Ok (first_with code 0 start t.records) }
 {
     lent::bytes(s);
     sheets::first_with(s, code)
 }
 
 // Its frame, whose code is in the head of the reading.
-pub fn frame_kept(s: &[u8]) -> Hopped
+pub fn frame_kept(s: &[u8]) -> Result<Hop, Refusal>
     ensures { (year : ℕ) (t : Sheet) → reading year s.now ≡ given t
-        → result ≡ Hopped.Hop (first_with (frame_code t.head) 0 start t.records) }
+        → result ≡ Ok (first_with (frame_code t.head) 0 start t.records) }
 {
     lent::bytes(s);
     sheets::frame_of(s)

@@ -1,6 +1,6 @@
 // The 2017 reader accepts a sheet exactly when it keeps the layout, and reads it as that layout says. (Demand 2.) Nothing is asked of the slice:
 // its type says that it is bytes.
-ghost use Rattle.std.specs.Prelude.{true, ◌↔◌, ◌≡◌};
+ghost use Rattle.std.specs.Prelude.{true, ◌↔◌, ◌≡◌, IfOk};
 ghost use Rattle.layout.specs.Answers.Calls.{and_then, in_rooms, lent as lent_by};
 ghost use Rattle.layout.specs.Answers.Enums.{checked_of, head_at};
 ghost use Rattle.layout.specs.Answers.Lent.{rooms, the_numbers, the_elements, the_bytes};
@@ -14,7 +14,7 @@ ghost use Rattle.meanings.specs.Places.{first_none};
 ghost use Rattle.promises.specs.Corners.{stored_in};
 
 use crate::lent;
-use layout::{Checked, Corners, Headed};
+use layout::{Corners, HeadAt, Refusal, Sizes};
 use meanings::setting::Setting;
 use reading::heads;
 use reading::sheets::{check, unfold};
@@ -24,14 +24,16 @@ pub fn keeps_layout(s: &[u8]) -> bool
     ensures { (result ≡ true) ↔ ((t : Sheet) × Fine t × (encode t ≡ s.now)) }
 {
     lent::bytes(s);
-    match check(s, Setting::Y2017) {
-        Checked::Accepted(_) => true,
-        Checked::Refused(_) => false,
-    }
+    check(s, Setting::Y2017).is_ok()
 }
 
 // A sheet that keeps the layout is unfolded as that layout says, or refused with ROOM.
-pub fn unfold_kept(s: &[u8], table: &mut [u64], elements: &mut [u64], bytes: &mut [u8]) -> Checked
+pub fn unfold_kept(
+    s: &[u8],
+    table: &mut [u64],
+    elements: &mut [u64],
+    bytes: &mut [u8],
+) -> Result<Sizes, Refusal>
     ensures { (t : Sheet) → Fine t → encode t ≡ s.now
         → (result ≡ checked_of (and_then (in_rooms (rooms table.old elements.old bytes.old) (flatten t.records)) (λ _. given t)))
         × (table.new ≡ lent_by the_numbers
@@ -46,16 +48,16 @@ pub fn unfold_kept(s: &[u8], table: &mut [u64], elements: &mut [u64], bytes: &mu
 }
 
 // Its head is the one that the layout has written, and its text fields are clean where the tails that it has written are.
-pub fn head_kept(s: &[u8]) -> Headed
-    ensures { (t : Sheet) → Fine t → encode t ≡ s.now → result ≡ Headed.Head (head_at t.head t.tails) }
+pub fn head_kept(s: &[u8]) -> Result<HeadAt, Refusal>
+    ensures { (t : Sheet) → Fine t → encode t ≡ s.now → result ≡ Ok (head_at t.head t.tails) }
 {
     lent::bytes(s);
     heads::head_of(s, Setting::Y2017)
 }
 
 // The corners that a sheet answers at any setting have the bits that stand in it.
-pub fn corners_kept(s: &[u8], setting: Setting) -> Corners
-    ensures { Keeps (stored_in s.now) result (first_none (stored_in s.now)) }
+pub fn corners_kept(s: &[u8], setting: Setting) -> Result<Corners, Refusal>
+    ensures { IfOk result (λ c. Keeps (stored_in s.now) c (first_none (stored_in s.now))) }
 {
     lent::bytes(s);
     heads::corners_of(s, setting)

@@ -10,7 +10,7 @@ ghost use Rattle.layout.specs.Walk.{given};
 use crate::lent;
 use fields::numbers::part;
 use index::{files, sheets};
-use layout::{BlockKind, Entry, Indexed, Written};
+use layout::{BlockKind, Entry};
 use meanings::setting::Setting;
 
 // True exactly where the bytes are the blocks of some entries, all of one kind.
@@ -18,10 +18,7 @@ pub fn keeps_blocks(index: &[u8]) -> bool
     ensures { (result ≡ true) ↔ ((kind : BlockKind) × (es : List Entry) × FineEntries kind es × (encode_index kind es ≡ index.now)) }
 {
     lent::bytes(index);
-    match files::check(index) {
-        Indexed::Accepted(_) => true,
-        Indexed::Refused(_) => false,
-    }
+    files::check(index).is_ok()
 }
 
 // Builds the index of a sheet at a setting, and selects by a code through it. True exactly where the index was built, which is where the sheet is
@@ -39,11 +36,10 @@ pub fn select_built(
         → picks.new ≡ lent_by the_given (roomed (length picks.old) (picked other.year s.now code)) picks.old }
 {
     lent::bytes(s);
-    match sheets::build(s, setting, index) {
-        Written::Length(n) => {
-            files::select(part(index, 0, n), code, picks);
-            true
-        }
-        Written::Refused(_) => false,
-    }
+    let Ok(n) = sheets::build(s, setting, index) else {
+        return false;
+    };
+    // Whether there is room for what is selected is part of what is promised.
+    let _ = files::select(part(index, 0, n), code, picks);
+    true
 }

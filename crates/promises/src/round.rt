@@ -19,7 +19,7 @@ ghost use Rattle.promises.specs.Hands.{head_by, HeadWithin, table_by, TableWithi
 use crate::lent;
 use fields::copies::put_bytes;
 use fields::numbers::part;
-use layout::{Checked, HeadAt, Headed, Sizes, Written, descriptor, passport};
+use layout::{HeadAt, Refusal, Sizes, descriptor, passport};
 use meanings::setting::Setting;
 use reading::heads::head_of;
 use reading::sheets::unfold;
@@ -57,7 +57,7 @@ pub fn read_back(
 {
     lent::head(date, designation, scale, title, rest, designation2, carried);
     lent::bytes(bytes);
-    match write(
+    let Ok(n) = write(
         date,
         designation,
         scale,
@@ -70,13 +70,10 @@ pub fn read_back(
         bytes,
         setting,
         out,
-    ) {
-        Written::Length(n) => match unfold(part(out, 0, n), later, numbers, pool, texts) {
-            Checked::Accepted(_) => true,
-            Checked::Refused(_) => false,
-        },
-        Written::Refused(_) => false,
-    }
+    ) else {
+        return false;
+    };
+    unfold(part(out, 0, n), later, numbers, pool, texts).is_ok()
 }
 
 fn first_of(s: &[u64], n: usize) -> &[u64]
@@ -121,7 +118,7 @@ fn write_read(
     bytes: &[u8],
     setting: Setting,
     out: &mut [u8],
-) -> Written
+) -> Result<usize, Refusal>
     requires { HeadWithin s.now h × TableWithin z table.now elements.now bytes.now }
     ensures answers { result ≡ written_of (written setting.year (head_by s.now h)
         (table_by z table.now elements.now bytes.now) (length out.old)) }
@@ -130,10 +127,10 @@ fn write_read(
 {
     let rest = rest_of(s);
     let carried = carried_of(s);
-    let date = part(s, passport::DATE, h.date);
-    let designation = part(s, passport::DESIGNATION, h.designation);
-    let title = part(s, passport::TITLE, h.title);
-    let designation2 = part(s, descriptor::DESIGNATION, h.designation2);
+    let date = part(s, passport::DATE, h.date.length);
+    let designation = part(s, passport::DESIGNATION, h.designation.length);
+    let title = part(s, passport::TITLE, h.title.length);
+    let designation2 = part(s, descriptor::DESIGNATION, h.designation2.length);
     let numbers = first_of(table, z.numbers);
     let pool = first_of(elements, z.elements);
     let texts = part(bytes, 0, z.bytes);
@@ -170,14 +167,11 @@ pub fn write_back(
         × (AllClean u.tails → out.new ≡ over s.now out.old) }
 {
     lent::bytes(s);
-    match unfold(s, setting, table, elements, bytes) {
-        Checked::Accepted(z) => match head_of(s, setting) {
-            Headed::Head(h) => match write_read(s, h, z, table, elements, bytes, setting, out) {
-                Written::Length(_) => true,
-                Written::Refused(_) => false,
-            },
-            Headed::Refused(_) => false,
-        },
-        Checked::Refused(_) => false,
-    }
+    let Ok(z) = unfold(s, setting, table, elements, bytes) else {
+        return false;
+    };
+    let Ok(h) = head_of(s, setting) else {
+        return false;
+    };
+    write_read(s, h, z, table, elements, bytes, setting, out).is_ok()
 }

@@ -10,15 +10,15 @@ ghost use Rattle.layout.specs.Walk.{given};
 ghost use Rattle.layout.specs.Writing.Tables.{flatten};
 
 use crate::lent;
-use layout::{Checked, Headed};
+use layout::{HeadAt, Refusal, Sizes};
 use meanings::setting::Setting;
 use reading::heads::head_of;
 use reading::sheets::unfold;
 
 // Its head has the same lengths and scale, and four clean text fields.
-pub fn head_cleared(s: &[u8], c: &[u8], setting: Setting) -> Headed
+pub fn head_cleared(s: &[u8], c: &[u8], setting: Setting) -> Result<HeadAt, Refusal>
     ensures { (u : Sheet) → reading setting.year s.now ≡ given u → c.now ≡ cleared s.now
-        → result ≡ Headed.Head (head_at u.head (clean_tails u.head)) }
+        → result ≡ Ok (head_at u.head (clean_tails u.head)) }
 {
     lent::bytes(s);
     head_of(c, setting)
@@ -32,7 +32,7 @@ pub fn unfold_cleared(
     table: &mut [u64],
     elements: &mut [u64],
     bytes: &mut [u8],
-) -> Checked
+) -> Result<Sizes, Refusal>
     ensures { (u : Sheet) → reading setting.year s.now ≡ given u → c.now ≡ cleared s.now
         → (result ≡ checked_of (and_then (in_rooms (rooms table.old elements.old bytes.old) (flatten u.records))
         (λ _. given (clean_of u))))

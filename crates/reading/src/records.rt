@@ -11,26 +11,24 @@ ghost use Rattle.layout.specs.Shared.Row.{part_width, item_width, row_size};
 ghost use Rattle.layout.specs.Walk.{answer, up_to};
 ghost use Rattle.reading.specs.Found.{AcceptedAt, Hops, record_by};
 
-use crate::sheets::check_by_year;
+use crate::sheets::check;
+use fields::checks::refused;
 use fields::headers::header_at;
 use fields::numbers;
-use fields::records::{first_count, mark_of, reference_number};
-use layout::refusals::ASK;
-use layout::{Checked, Found, RecordAt, Refusal, row, sheet};
+use fields::records::{first_count, mark_of};
+use layout::refusals::Reason;
+use layout::{RecordAt, Refusal, row, sheet};
 use meanings::setting::Setting;
 use reading_check::records;
-use reading_check::tally::Counted;
 
 // Where the record of a number starts: from header to header, by their total lengths.
 fn place_of(s: &[u8], number: u64) -> usize
     requires { Hops number start s.now }
     ensures { result ≡ place_in number start s.now }
 {
-    let mut left = number;
     let mut at: usize = sheet::START;
-    while 0 < left {
+    for _ in 0..number {
         at += header_at(s, at).total as usize;
-        left -= 1;
     }
     at
 }
@@ -40,10 +38,7 @@ fn items_of(numbers: usize, subobjects: u16) -> usize
     ensures { result ≡ (numbers - (row_size 1 0 + part_width * subobjects)) / item_width }
 {
     let others = row::WITH_FIRST + row::PART_WIDTH * (subobjects as usize);
-    if numbers < others {
-        return 0;
-    }
-    (numbers - others) / row::ITEM_WIDTH
+    numbers.saturating_sub(others) / row::ITEM_WIDTH
 }
 
 // The record that starts at a place, with xs from there on, by its header and its count of numbers.
@@ -58,7 +53,7 @@ fn record_by(xs: &[u8], place: usize, count: usize) -> RecordAt
         code: h.code,
         in_group: h.in_group,
         group: h.group,
-        reference: reference_number(h.b20, h.b21, h.b22),
+        reference: h.reference.number(),
         generalisation: h.generalisation,
         word: h.word,
         parts: 1 + (h.subobjects as u32),
@@ -69,38 +64,31 @@ fn record_by(xs: &[u8], place: usize, count: usize) -> RecordAt
 }
 
 // The record of a number, of a sheet that is accepted at a year and has so many records.
-fn record_in(s: &[u8], year: u32, number: u64, count: u64) -> Found
+fn record_in(s: &[u8], year: u32, number: u64, count: u64) -> Result<RecordAt, Refusal>
     requires { AcceptedAt s.now year count }
     ensures { result ≡ found_of (and_then (answer (up_to year) (sheet_walk s.now)) (λ t. record_of start t.records number)) }
 {
     if count <= number {
-        return Found::Refused(Refusal {
-            number: ASK,
-            place: 0,
-            year: 0,
-        });
+        return refused(Reason::Ask, 0);
     }
     let at = place_of(s, number);
     let xs = numbers::rest(s, at);
-    match records::records(xs, at, 1, year) {
-        Counted::Fine(t) => Found::Record(record_by(xs, at, t.numbers)),
-        Counted::Refused(r) => Found::Refused(r),
-    }
+    let t = records::records(xs, at, 1, year)?;
+    Ok(record_by(xs, at, t.numbers))
 }
 
 // A number that is not below the count is refused after the sheet's own refusals.
-pub fn record_by_year(s: &[u8], year: u32, number: u64) -> Found
-    ensures { result ≡ found_of (asked year s.now number) }
-{
-    match check_by_year(s, year) {
-        Checked::Accepted(sizes) => record_in(s, year, number, sizes.records as u64),
-        Checked::Refused(r) => Found::Refused(r),
-    }
-}
-
-// The same at a setting.
-pub fn record_at(s: &[u8], setting: Setting, number: u64) -> Found
+pub fn record_at(s: &[u8], setting: Setting, number: u64) -> Result<RecordAt, Refusal>
     ensures { result ≡ found_of (asked setting.year s.now number) }
 {
-    record_by_year(s, setting.year(), number)
+    let sizes = check(s, setting)?;
+    record_in(s, setting.year(), number, sizes.records as u64)
+}
+
+// The same at a year, for C has years (`sxf_record_at`).
+pub fn record_by_year(s: &[u8], year: u32, number: u64) -> Result<RecordAt, Refusal>
+    ensures { result ≡ found_of (asked year s.now number) }
+{
+    let setting = Setting::new(year)?;
+    record_at(s, setting, number)
 }

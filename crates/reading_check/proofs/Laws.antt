@@ -5,6 +5,7 @@ pub mod Texts
 pub mod Parts
 pub mod Wholes
 pub mod Steps
+pub mod Headers
 pub mod Items
 pub mod Fills
 pub mod Records

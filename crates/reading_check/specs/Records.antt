@@ -1,8 +1,6 @@
 -- A record in two steps: its header is checked, and its metric and semantics are counted.
 use Rattle.std.specs.Prelude.{Bool, cond, List, ◌++◌, ◌≡◌, ℕ, ◌+◌, ◌≤◌, length}
 use Rattle.reading_check.specs.Tally.{tally_of, shown, plus}
-use Rattle.reading_check.specs.declared.tally.Counted.{Counted}
-use Rattle.reading_check.specs.declared.tally.Counted.TheVariants.{Refused}
 use Rattle.reading_check.specs.declared.tally.Tally.{Tally}
 use Rattle.layout.specs.Answers.Enums.{refusal}
 use Rattle.layout.specs.Bytes.{some, agree}
@@ -14,6 +12,8 @@ use Rattle.layout.specs.Shared.Reference.{reference_checks}
 use Rattle.layout.specs.Sheet.{Record}
 use Rattle.layout.specs.Walk.{Walk, Check, ◌>>=◌, ends, Piece, piece, fill}
 use Rattle.layout.specs.Writing.Tables.{joined, flatten_item}
+use Rattle.layout.specs.declared.Refusal.{Refusal}
+use Rattle.std.specs.Prelude.{Result, Err}
 
 -- the checks on a header, one list
 abbrev pub header_checks : ℕ → Header → List Check
@@ -35,8 +35,8 @@ rest_walk place xs =
     >>= λ r. ends (piece r (header_in xs).total)
 
 -- the semantics xs at a place, after what has front
-abbrev pub semantics_of : Bool → Tally → ℕ → ℕ → List ℕ → Counted
+abbrev pub semantics_of : Bool → Tally → ℕ → ℕ → List ℕ → Result Tally Refusal
 semantics_of flag front year place xs =
     cond (agree flag (some xs))
     (plus front (shown (λ l. tally_of (length xs) (joined flatten_item l)) year (fill item_walk place xs)))
-    (Refused (refusal LENGTH place 0))
+    (Err (refusal LENGTH place 0))

@@ -1,12 +1,12 @@
 -- What is counted of a piece: the bytes it took, and how much it adds to each of the three lists of the table.
 use Rattle.std.specs.Prelude.{List, [], ℕ, ◌+◌, ◌≤◌, ◌<◌, ◌^◌, length}
-use Rattle.reading_check.specs.declared.tally.Counted.{Counted}
-use Rattle.reading_check.specs.declared.tally.Counted.TheVariants.{Fine, Refused}
 use Rattle.reading_check.specs.declared.tally.Tally.{Tally}
-use Rattle.layout.specs.Answers.Enums.{refusal}
+use Rattle.layout.specs.Answers.Enums.{result_of}
 use Rattle.layout.specs.Sheet.{Part, Table}
 use Rattle.layout.specs.Walk.{Walk, Answer, given, refused, answer, up_to, Piece, Pair}
 use Rattle.layout.specs.Writing.Tables.{table, join, joined, flatten_part}
+use Rattle.layout.specs.declared.Refusal.{Refusal}
+use Rattle.std.specs.Prelude.{Result, Ok, Err}
 
 abbrev pub none : Tally
 none = record { used = 0; numbers = 0; elements = 0; bytes = 0 }
@@ -36,22 +36,18 @@ text_table t = table [] [] t
 abbrev pub metric_table : Pair Part (List Part) → Table
 metric_table v = join (flatten_part v.first) (joined flatten_part v.second)
 
-abbrev pub counted_of : {A : Type 0} → (A → Tally) → Answer A → Counted
-counted_of f (given a) = Fine (f a)
-counted_of f (refused number place year) = Refused (refusal number place year)
-
 -- what the code answers of a walk, at a setting
-abbrev pub shown : {A : Type 0} → (A → Tally) → ℕ → Walk A → Counted
-shown f year w = counted_of f (answer (up_to year) w)
+abbrev pub shown : {A : Type 0} → (A → Tally) → ℕ → Walk A → Result Tally Refusal
+shown f year w = result_of f (answer (up_to year) w)
 
 -- the next answer, unless there is a refusal
-abbrev pub next : Counted → (Tally → Counted) → Counted
-next (Fine z) k = k z
-next (Refused r) k = Refused r
+abbrev pub next : Result Tally Refusal → (Tally → Result Tally Refusal) → Result Tally Refusal
+next (Ok z) k = k z
+next (Err r) k = Err r
 
-abbrev pub plus : Tally → Counted → Counted
-plus a (Fine z) = Fine (add a z)
-plus a (Refused r) = Refused r
+abbrev pub plus : Tally → Result Tally Refusal → Result Tally Refusal
+plus a (Ok z) = Ok (add a z)
+plus a (Err r) = Err r
 
 -- every count fits 64 bits
 pub record Small (z : Tally) : Type 0 where
@@ -68,6 +64,6 @@ pub record WithinT (n e : ℕ) (z : Tally) : Type 0 where
   pub elements : z.elements ≤ z.used
   pub bytes : z.bytes ≤ z.used
 
-abbrev pub Within : ℕ → ℕ → Counted → Type 0
-Within n e (Fine z) = WithinT n e z
-Within n e (Refused r) = Unit {0}
+abbrev pub Within : ℕ → ℕ → Result Tally Refusal → Type 0
+Within n e (Ok z) = WithinT n e z
+Within n e (Err r) = Unit {0}

@@ -2,8 +2,7 @@
 ghost use Rattle.std.specs.Prelude.{true, false, ◌≡◌, ℕ, ◌+◌, ◌*◌, ◌≤◌, ◌<◌, ◌^◌, length, drop};
 ghost use Rattle.reading_check.specs.Items.{shape_of, Shaped, shape_checks, value_walk};
 ghost use Rattle.reading_check.specs.Tally.{shown, tally, tally_of, Within};
-ghost use Rattle.fields.specs.Steps.{Next};
-ghost use Rattle.fields.specs.declared.steps.Step.TheVariants.{Fine};
+ghost use Rattle.fields.specs.Checks.{checked};
 ghost use Rattle.layout.specs.Bytes.{number};
 ghost use Rattle.layout.specs.Fields.Item;
 ghost use Rattle.layout.specs.Reading.Items.{item_walk, value_size};
@@ -11,10 +10,10 @@ ghost use Rattle.layout.specs.Shared.Types.{kind_of};
 ghost use Rattle.layout.specs.Walk.{fill};
 ghost use Rattle.layout.specs.Writing.Tables.{joined, flatten_item};
 
-use crate::tally::{Counted, Tally, sum};
-use fields::steps::{Step, demand, feature};
+use crate::tally::Tally;
+use fields::checks::{demand, feature, refused};
 use fields::{numbers, texts};
-use layout::refusals::{LENGTH, SEMANTIC, TEXT};
+use layout::refusals::Reason;
 use layout::{Refusal, item, row, years};
 
 // What follows from an item's type and scale byte: where its value starts, how long it is unless that stands before it, and how many
@@ -48,47 +47,37 @@ fn shape_of(t: u8, scale: u8) -> Shape
         × (result.size ≤ 512) × (result.closing ≤ 2) }
 {
     let n = scale as usize + 1;
-    if (t == 0) | (t == 126) {
-        return plain(true, n, 1);
-    }
-    if t == 127 {
-        return plain(true, 2 * n, 2);
-    }
-    if ((t == 1) | (t == 2)) | (t == 4) {
-        return plain(!(scale == 0x80), t as usize, 0);
-    }
-    if t == 8 {
-        return plain(true, 8, 0);
-    }
-    if t == 128 {
-        return Shape {
+    match t as u64 {
+        item::NARROW | item::NARROW_126 => plain(true, n, 1),
+        item::WIDE => plain(true, 2 * n, 2),
+        item::INTEGER_1 | item::INTEGER_2 | item::INTEGER_4 => {
+            plain(scale as u64 != item::INTEGER_NO_SCALE, t as usize, 0)
+        }
+        item::DOUBLE => plain(true, item::DOUBLE_LENGTH, 0),
+        item::LONG => Shape {
             known: true,
             long: true,
-            good_scale: scale == 0xFF,
+            good_scale: scale as u64 == item::LONG_SCALE,
             at: item::LONG_SIZE,
             size: 0,
             closing: 2,
-        };
-    }
-    Shape {
-        known: false,
-        long: false,
-        good_scale: true,
-        at: item::SIZE,
-        size: 0,
-        closing: 0,
+        },
+        _ => Shape {
+            known: false,
+            ..plain(true, 0, 0)
+        },
     }
 }
 
 // The checks on type and scale, and that the bytes before the value fit.
-fn shape_checks(k: Shape, p: usize, n: usize, year: u32) -> Step
+fn shape_checks(k: Shape, p: usize, n: usize, year: u32) -> Result<(), Refusal>
     requires { p < 2 ^ 32 }
-    ensures { Next Fine year p (shape_checks k n) result }
+    ensures { result ≡ checked year p (shape_checks k n) }
 {
-    let a = demand(Step::Fine, k.known, SEMANTIC, p, item::TYPE);
-    let a = feature(a, k.long, years::TYPE_128, p, item::TYPE, year);
-    let a = demand(a, k.good_scale, SEMANTIC, p, item::SCALE);
-    demand(a, k.at <= n, LENGTH, p, 0)
+    demand(k.known, Reason::Semantic, p + item::TYPE)?;
+    feature(k.long, years::TYPE_128, p + item::TYPE, year)?;
+    demand(k.good_scale, Reason::Semantic, p + item::SCALE)?;
+    demand(k.at <= n, Reason::Length, p)
 }
 
 // The length of the value: stored before it for type 128, else what the type and the scale byte say.
@@ -97,95 +86,66 @@ fn value_size(xs: &[u8], k: Shape) -> usize
     ensures { (result ≡ value_size xs.now) × (result < 2 ^ 32) }
 {
     if k.long {
-        return numbers::u32_at(xs, item::LONG_LENGTH) as usize;
+        return numbers::at::<u32>(xs, item::LONG_LENGTH) as usize;
     }
     k.size
 }
 
 // Checks the value: its length, that it fits, and its closing zeros.
-fn value(xs: &[u8], p: usize, k: Shape) -> Counted
+fn value(xs: &[u8], p: usize, k: Shape) -> Result<Tally, Refusal>
     requires { (p + length xs.now < 2 ^ 32) × Shaped xs.now k × (k.at ≤ length xs.now) }
     ensures means { (y : ℕ) → result ≡ shown (tally flatten_item) y (value_walk p xs.now) }
     ensures within { Within (length xs.now) 0 result }
 {
     let size = value_size(xs, k);
-    if !k.long | ((size % 2 == 0) & (2 <= size)) {
-        let used = k.at + size;
-        if xs.len() < used {
-            return Counted::Refused(Refusal {
-                number: LENGTH,
-                place: p,
-                year: 0,
-            });
-        }
-        let closing = k.closing;
-        let end = used - closing;
-        if texts::all_zero(numbers::part(xs, end, closing)) {
-            return Counted::Fine(Tally {
-                used,
-                numbers: row::ITEM_WIDTH,
-                elements: 0,
-                bytes: size,
-            });
-        }
-        return Counted::Refused(Refusal {
-            number: TEXT,
-            place: p + end,
-            year: 0,
-        });
+    let good = !k.long | ((size % 2 == 0) & (2 <= size));
+    if !good {
+        return refused(Reason::Semantic, p + item::LONG_LENGTH);
     }
-    Counted::Refused(Refusal {
-        number: SEMANTIC,
-        place: p + item::LONG_LENGTH,
-        year: 0,
+    let used = k.at + size;
+    if xs.len() < used {
+        return refused(Reason::Length, p);
+    }
+    let end = used - k.closing;
+    if !texts::all_zero(numbers::part(xs, end, k.closing)) {
+        return refused(Reason::Text, p + end);
+    }
+    Ok(Tally {
+        used,
+        numbers: row::ITEM_WIDTH,
+        elements: 0,
+        bytes: size,
     })
 }
 
 // Checks the item at the start of xs.
-pub fn item(xs: &[u8], p: usize, year: u32) -> Counted
+pub fn item(xs: &[u8], p: usize, year: u32) -> Result<Tally, Refusal>
     requires { p + length xs.now < 2 ^ 32 }
     ensures means { result ≡ shown (tally flatten_item) year (item_walk p xs.now) }
     ensures within { Within (length xs.now) 0 result }
 {
     if xs.len() < item::SIZE {
-        return Counted::Refused(Refusal {
-            number: LENGTH,
-            place: p,
-            year: 0,
-        });
+        return refused(Reason::Length, p);
     }
     let k = shape_of(
-        numbers::u8_at(xs, item::TYPE),
-        numbers::u8_at(xs, item::SCALE),
+        numbers::at::<u8>(xs, item::TYPE),
+        numbers::at::<u8>(xs, item::SCALE),
     );
-    match shape_checks(k, p, xs.len(), year) {
-        Step::Fine => value(xs, p, k),
-        Step::Refused(r) => Counted::Refused(r),
-    }
+    shape_checks(k, p, xs.len(), year)?;
+    value(xs, p, k)
 }
 
-// Checks items until their bytes end.
-pub fn items(xs: &[u8], p: usize, year: u32) -> Counted
+// Checks items until their bytes end. Each says itself where the next starts, so that no range counts them.
+pub fn items(xs: &[u8], p: usize, year: u32) -> Result<Tally, Refusal>
     requires { p + length xs.now < 2 ^ 32 }
     ensures means { result ≡ shown (λ l. tally_of (length xs.now) (joined flatten_item l)) year (fill item_walk p xs.now) }
     ensures within { Within (length xs.now) 0 result }
 {
-    let mut acc = Tally {
-        used: 0,
-        numbers: 0,
-        elements: 0,
-        bytes: 0,
-    };
+    let mut acc = Tally::none();
     while acc.used < xs.len() {
         let at = acc.used;
-        match item(&xs[at..], p + at, year) {
-            Counted::Fine(z) => {
-                acc = sum(acc, z);
-            }
-            Counted::Refused(r) => {
-                return Counted::Refused(r);
-            }
-        }
+        let z = item(&xs[at..], p + at, year)?;
+        acc = acc.and(z);
     }
-    Counted::Fine(acc)
+    Ok(acc)
 }

@@ -1,10 +1,9 @@
-// What is counted on the way, and the answer of each piece.
+// What is counted on the way.
 ghost use Rattle.std.specs.Prelude.{◌≡◌};
-ghost use Rattle.reading_check.specs.Tally.{add, Small};
+ghost use Rattle.reading_check.specs.Tally.{none, add, Small};
 
-use layout::Refusal;
-
-// How many bytes of the sheet were used, and how many numbers, elements and bytes they give.
+// How many bytes of the sheet were used, and how many numbers, elements and bytes they give. It is no `Cursor`: counts are added, and
+// places are not.
 #[derive(Clone, Copy)]
 pub struct Tally {
     pub used: usize,
@@ -13,21 +12,28 @@ pub struct Tally {
     pub bytes: usize,
 }
 
-#[derive(Clone, Copy)]
-pub enum Counted {
-    Fine(Tally),
-    Refused(Refusal),
-}
+impl Tally {
+    pub fn none() -> Tally
+        ensures { result ≡ none }
+    {
+        Tally {
+            used: 0,
+            numbers: 0,
+            elements: 0,
+            bytes: 0,
+        }
+    }
 
-// What two pieces count together.
-pub fn sum(a: Tally, b: Tally) -> Tally
-    requires { Small (add a b) }
-    ensures { result ≡ add a b }
-{
-    Tally {
-        used: a.used + b.used,
-        numbers: a.numbers + b.numbers,
-        elements: a.elements + b.elements,
-        bytes: a.bytes + b.bytes,
+    // What two pieces count together.
+    pub fn and(self, other: Tally) -> Tally
+        requires { Small (add self other) }
+        ensures { result ≡ add self other }
+    {
+        Tally {
+            used: self.used + other.used,
+            numbers: self.numbers + other.numbers,
+            elements: self.elements + other.elements,
+            bytes: self.bytes + other.bytes,
+        }
     }
 }

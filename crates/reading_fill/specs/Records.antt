@@ -4,7 +4,7 @@ use Rattle.reading_fill.specs.Items.{items_in, items_size}
 use Rattle.reading_fill.specs.Parts.{part_in, part_size, subobjects_in, subobjects_size}
 use Rattle.fields.specs.Shapes.{shape_of}
 use Rattle.reading_fill.specs.Pieces.{times_in, times_size}
-use Rattle.reading_fill.specs.declared.cursors.Cursor.{Cursor}
+use Rattle.fields.specs.declared.cursors.Cursor.{Cursor}
 use Rattle.fields.specs.declared.shapes.Shape.{Shape}
 use Rattle.layout.specs.Bytes.{number_in}
 use Rattle.layout.specs.Fields.Header as Field

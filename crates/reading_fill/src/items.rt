@@ -1,54 +1,56 @@
 // The semantic items of a record.
-ghost use Rattle.std.specs.Prelude.{[], ◌≡◌, length};
-ghost use Rattle.reading_fill.specs.Cursors.{ahead, moved, Room, Wrote};
+ghost use Rattle.std.specs.Prelude.{◌≡◌, length};
+ghost use Rattle.reading_fill.specs.Cursors.{ahead, HasFlatRoom, Fills};
+ghost use Rattle.fields.specs.Cursors.{moved};
 ghost use Rattle.reading_fill.specs.Items.{items_in, items_size};
 ghost use Rattle.layout.specs.Reading.Items.{item_in, item_size};
 ghost use Rattle.layout.specs.Writing.Tables.{joined, flatten_item};
 
-use crate::cursors::Cursor;
+use crate::filler::Filler;
 use crate::rows;
-use fields::kinds::{kind_at, length_bytes, value_size};
+use fields::cursors::Cursor;
+use fields::kinds::{kind_at, value_size};
 use fields::{copies, numbers};
 use layout::{item, row};
 
-// Fills the four numbers and the value of an item. It has no elements, so that pool is not lent.
-pub fn fill_item(xs: &[u8], c: Cursor, table: &mut [u64], bytes: &mut [u8]) -> Cursor
-    requires { Room c (item_size (ahead c xs.now)) (flatten_item (item_in (ahead c xs.now)))
-        (length xs.now) (length table.old) c.elements (length bytes.old) }
-    ensures is { result ≡ moved c (item_size (ahead c xs.now)) (flatten_item (item_in (ahead c xs.now))) }
-    ensures wrote { Wrote c (flatten_item (item_in (ahead c xs.now)))
-        table.old [] bytes.old table.new [] bytes.new }
-{
-    let at = c.place;
-    let w = c.numbers;
-    let b = c.bytes;
-    let code = numbers::u16_at(xs, at);
-    let t = numbers::u8_at(xs, at + item::TYPE);
-    let scale = numbers::u8_at(xs, at + item::SCALE);
-    let k = kind_at(xs, at);
-    let p = item::SIZE + length_bytes(k);
-    let n = value_size(xs, at, k);
-    copies::put_bytes(xs, at + p, n, bytes, b);
-    rows::put_item(table, w, code, t, scale, n);
-    Cursor {
-        place: at + p + n,
-        numbers: w + row::ITEM_WIDTH,
-        elements: c.elements,
-        bytes: b + n,
+impl Filler<'_> {
+    // Fills the four numbers and the value of an item.
+    pub fn fill_item(&mut self, xs: &[u8], c: Cursor) -> Cursor
+        requires { HasFlatRoom c (item_size (ahead c xs.now)) (flatten_item (item_in (ahead c xs.now)))
+            (length xs.now) self.old }
+        ensures is { result ≡ moved c (item_size (ahead c xs.now)) (flatten_item (item_in (ahead c xs.now))) }
+        ensures wrote { Fills c (flatten_item (item_in (ahead c xs.now))) self.old self.new }
+    {
+        let at = c.place;
+        let w = c.numbers;
+        let b = c.bytes;
+        let code = numbers::at::<u16>(xs, at);
+        let t = numbers::at::<u8>(xs, at + item::TYPE);
+        let scale = numbers::at::<u8>(xs, at + item::SCALE);
+        let k = kind_at(xs, at);
+        let p = item::SIZE + k.length_bytes();
+        let n = value_size(xs, at, k);
+        copies::put_bytes(xs, at + p, n, self.bytes, b);
+        rows::put_item(self.numbers, w, code, t, scale, n);
+        Cursor {
+            place: at + p + n,
+            numbers: w + row::ITEM_WIDTH,
+            elements: c.elements,
+            bytes: b + n,
+        }
     }
-}
 
-// Fills items until their bytes end.
-pub fn fill_items(xs: &[u8], c: Cursor, table: &mut [u64], bytes: &mut [u8]) -> Cursor
-    requires { Room c (items_size (ahead c xs.now)) (joined flatten_item (items_in (ahead c xs.now)))
-        (length xs.now) (length table.old) c.elements (length bytes.old) }
-    ensures is { result ≡ moved c (items_size (ahead c xs.now)) (joined flatten_item (items_in (ahead c xs.now))) }
-    ensures wrote { Wrote c (joined flatten_item (items_in (ahead c xs.now)))
-        table.old [] bytes.old table.new [] bytes.new }
-{
-    let mut acc = c;
-    while acc.place < xs.len() {
-        acc = fill_item(xs, acc, table, bytes);
+    // Fills items until their bytes end. Each says itself where the next starts, so that no range counts them.
+    pub fn fill_items(&mut self, xs: &[u8], c: Cursor) -> Cursor
+        requires { HasFlatRoom c (items_size (ahead c xs.now)) (joined flatten_item (items_in (ahead c xs.now)))
+            (length xs.now) self.old }
+        ensures is { result ≡ moved c (items_size (ahead c xs.now)) (joined flatten_item (items_in (ahead c xs.now))) }
+        ensures wrote { Fills c (joined flatten_item (items_in (ahead c xs.now))) self.old self.new }
+    {
+        let mut acc = c;
+        while acc.place < xs.len() {
+            acc = self.fill_item(xs, acc);
+        }
+        acc
     }
-    acc
 }

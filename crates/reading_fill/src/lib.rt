@@ -5,7 +5,7 @@
 // what an accepted sheet keeps. Each contract says that the slices hold what the flattened pieces are, and else what they held.
 #![tactic(auto)]
 
-pub mod cursors;
+pub mod filler;
 pub mod items;
 pub mod parts;
 pub mod records;

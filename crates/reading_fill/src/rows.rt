@@ -6,7 +6,7 @@ ghost use Rattle.layout.specs.Shared.Row.{row_width, part_width, item_width};
 ghost use Rattle.std.proofs.lemmas.List.Edits.{sets};
 
 use fields::headers::Header;
-use fields::records::{mark_of, reference_number};
+use fields::records::mark_of;
 use layout::row;
 
 pub fn put_part(out: &mut [u64], w: usize, points: usize, text: usize)
@@ -35,7 +35,7 @@ pub fn put_record(out: &mut [u64], w: usize, h: Header, items: usize)
     out[w] = h.code as u64;
     out[w + row::IN_GROUP] = h.in_group as u64;
     out[w + row::GROUP] = h.group as u64;
-    out[w + row::REFERENCE] = reference_number(h.b20, h.b21, h.b22) as u64;
+    out[w + row::REFERENCE] = h.reference.number() as u64;
     out[w + row::GENERALISATION] = h.generalisation as u64;
     out[w + row::WORD] = h.word as u64;
     out[w + row::PARTS] = 1 + (h.subobjects as u64);

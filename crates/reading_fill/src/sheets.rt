@@ -3,8 +3,8 @@ ghost use Rattle.std.specs.Prelude.{length};
 ghost use Rattle.reading_fill.specs.Sheets.{sheet_records, Accepted, Filled};
 ghost use Rattle.layout.specs.Writing.Tables.{flatten};
 
-use crate::cursors::Cursor;
-use crate::records;
+use crate::filler::Filler;
+use fields::cursors::Cursor;
 use fields::numbers;
 use layout::{descriptor, sheet};
 
@@ -14,18 +14,17 @@ pub fn fill(s: &[u8], table: &mut [u64], elements: &mut [u64], bytes: &mut [u8])
     ensures { Filled (flatten (sheet_records s.now)) table.old elements.old bytes.old table.new
         elements.new bytes.new }
 {
-    let n = numbers::u32_at(s, descriptor::COUNT) as usize;
-    records::fill_records(
-        s,
-        n,
-        Cursor {
-            place: sheet::START,
-            numbers: 0,
-            elements: 0,
-            bytes: 0,
-        },
-        table,
+    let n = numbers::at::<u32>(s, descriptor::COUNT) as usize;
+    let start = Cursor {
+        place: sheet::START,
+        numbers: 0,
+        elements: 0,
+        bytes: 0,
+    };
+    let mut filler = Filler {
+        numbers: table,
         elements,
         bytes,
-    );
+    };
+    filler.fill_records(s, n, start);
 }

@@ -11,9 +11,8 @@ ghost use Rattle.layout.specs.Sheet.{Sheet};
 ghost use Rattle.layout.specs.Walk.{outcome, ends};
 ghost use Rattle.reading_head.specs.Read.{Read};
 
-use fields::texts::TextAt;
 use fields::{numbers, rests, texts};
-use layout::{CornerBits, Corners, HeadAt, SheetUnit, descriptor, passport, rest};
+use layout::{Corners, HeadAt, PlaneCorners, SheetUnit, TextAt, descriptor, passport, rest};
 use meanings::{corners, units};
 
 // What is answered of the text field of n bytes at p.
@@ -31,19 +30,15 @@ pub fn head_in(s: &[u8]) -> HeadAt
 {
     let date = text_in(s, passport::DATE, passport::DATE_WIDTH);
     let designation = text_in(s, passport::DESIGNATION, passport::DESIGNATION_WIDTH);
-    let scale = numbers::u32_at(s, passport::SCALE);
+    let scale = numbers::at::<u32>(s, passport::SCALE);
     let title = text_in(s, passport::TITLE, passport::TITLE_WIDTH);
     let designation2 = text_in(s, descriptor::DESIGNATION, descriptor::DESIGNATION_WIDTH);
     HeadAt {
-        date: date.length,
-        designation: designation.length,
+        date,
+        designation,
         scale,
-        title: title.length,
-        designation2: designation2.length,
-        date_clean: date.clean,
-        designation_clean: designation.clean,
-        title_clean: title.clean,
-        designation2_clean: designation2.clean,
+        title,
+        designation2,
     }
 }
 
@@ -56,27 +51,19 @@ pub fn unit_in(s: &[u8]) -> SheetUnit
 }
 
 // The stored bits of the corners, from the same bytes.
-fn rest_corners(r: &[u8]) -> CornerBits
+fn rest_corners(r: &[u8]) -> PlaneCorners<u64>
     requires { (Passport.rest).width ≤ length r.now }
     ensures { result ≡ corner_bits r.now }
 {
-    let sw_x = numbers::u64_at(r, rest::SW_X);
-    let sw_y = numbers::u64_at(r, rest::SW_Y);
-    let nw_x = numbers::u64_at(r, rest::NW_X);
-    let nw_y = numbers::u64_at(r, rest::NW_Y);
-    let ne_x = numbers::u64_at(r, rest::NE_X);
-    let ne_y = numbers::u64_at(r, rest::NE_Y);
-    let se_x = numbers::u64_at(r, rest::SE_X);
-    let se_y = numbers::u64_at(r, rest::SE_Y);
-    CornerBits {
-        sw_x,
-        sw_y,
-        nw_x,
-        nw_y,
-        ne_x,
-        ne_y,
-        se_x,
-        se_y,
+    PlaneCorners {
+        sw_x: numbers::at::<u64>(r, rest::SW_X),
+        sw_y: numbers::at::<u64>(r, rest::SW_Y),
+        nw_x: numbers::at::<u64>(r, rest::NW_X),
+        nw_y: numbers::at::<u64>(r, rest::NW_Y),
+        ne_x: numbers::at::<u64>(r, rest::NE_X),
+        ne_y: numbers::at::<u64>(r, rest::NE_Y),
+        se_x: numbers::at::<u64>(r, rest::SE_X),
+        se_y: numbers::at::<u64>(r, rest::SE_Y),
     }
 }
 

@@ -1,46 +1,43 @@
 // The reader's checks on a sheet's length, and on passport and descriptor by rising place.
-ghost use Rattle.std.specs.Prelude.{[], ◌∷◌, ◌≡◌, ℕ, ◌+◌, ◌*◌, ◌≤◌, eqb, length, take, drop};
-ghost use Rattle.fields.specs.Steps.{Next};
-ghost use Rattle.fields.specs.declared.steps.Step.TheVariants.{Fine};
+ghost use Rattle.std.specs.Prelude.{◌≡◌, ℕ, ◌+◌, ◌*◌, ◌≤◌, eqb, length, take, drop};
+ghost use Rattle.fields.specs.Checks.{checked, demanded};
 ghost use Rattle.layout.specs.Bytes.{number, total};
 ghost use Rattle.layout.specs.Fields.{limit};
 ghost use Rattle.layout.specs.Reading.Sheets.{whole_sum, sum_of, size_checks, passport_checks, start};
 ghost use Rattle.layout.specs.Refusals.{TEXT};
 ghost use Rattle.layout.specs.Shared.Texts.{is_text_field};
-ghost use Rattle.layout.specs.Walk.{must};
-ghost use Rattle.reading_head.specs.Checks.{head_checks};
+ghost use Rattle.reading_head.specs.Checks.{head_checks, all_descriptor_checks};
 
-use fields::steps::{Step, demand};
+use fields::checks::demand;
 use fields::{flags, numbers, sums, texts};
-use layout::refusals::{EDITION, NOT_SXF, RESERVED, SHORT, SUM, TEXT, TOO_LONG};
-use layout::{descriptor, passport, sheet};
+use layout::refusals::Reason;
+use layout::{Refusal, descriptor, passport, sheet};
 
 // The checks on a sheet's length.
-pub fn size_checks(s: &[u8]) -> Step
-    ensures { (y : ℕ) → Next Fine y 0 (size_checks s.now) result }
+#[tactic(auto, unfolding(layout::specs::Reading::Sheets::size_checks))]
+pub fn size_checks(s: &[u8]) -> Result<(), Refusal>
+    ensures { (y : ℕ) → result ≡ checked y 0 (size_checks s.now) }
 {
-    let a = demand(Step::Fine, s.len() <= sheet::LIMIT, TOO_LONG, 0, 0);
-    demand(a, sheet::START <= s.len(), SHORT, 0, 0)
+    demand(s.len() <= sheet::LIMIT, Reason::TooLong, 0)?;
+    demand(sheet::START <= s.len(), Reason::Short, 0)
 }
 
 // The four bytes at p hold a fixed value, or the refusal is given there.
-pub fn fixed(so_far: Step, s: &[u8], p: usize, value: u32, refusal: u32) -> Step
+pub fn fixed(s: &[u8], p: usize, value: u32, reason: Reason) -> Result<(), Refusal>
     requires { p + 4 ≤ length s.now }
-    ensures { (y : ℕ) → Next so_far y 0 (must (eqb (number 4 (drop p s.now)) value) refusal p ∷ []) result }
+    ensures { result ≡ demanded (eqb (number 4 (drop p s.now)) value) reason p }
 {
-    demand(so_far, numbers::u32_at(s, p) == value, refusal, 0, p)
+    demand(numbers::at::<u32>(s, p) == value, reason, p)
 }
 
 // The n bytes at p are a text field, or TEXT is given there.
-fn text(so_far: Step, s: &[u8], p: usize, n: usize) -> Step
+fn text(s: &[u8], p: usize, n: usize) -> Result<(), Refusal>
     requires { p + n ≤ length s.now }
-    ensures { (y : ℕ) → Next so_far y 0 (must (is_text_field (take n (drop p s.now))) TEXT p ∷ []) result }
+    ensures { result ≡ demanded (is_text_field (take n (drop p s.now))) TEXT p }
 {
     demand(
-        so_far,
         texts::is_text_field(numbers::part(s, p, n)),
-        TEXT,
-        0,
+        Reason::Text,
         p,
     )
 }
@@ -55,61 +52,66 @@ pub fn head_sum(s: &[u8]) -> u64
     front + back
 }
 
-fn check_passport(s: &[u8], sum: u32) -> Step
+#[tactic(auto, unfolding(layout::specs::Reading::Sheets::passport_checks))]
+fn check_passport(s: &[u8], sum: u32) -> Result<(), Refusal>
     requires { (start ≤ length s.now) × (sum ≡ sum_of s.now) }
-    ensures { (y : ℕ) → Next Fine y 0 (passport_checks s.now) result }
+    ensures { (y : ℕ) → result ≡ checked y 0 (passport_checks s.now) }
 {
-    let a = fixed(
-        Step::Fine,
+    fixed(
         s,
         passport::IDENTIFIER,
         passport::IDENTIFIER_IS,
-        NOT_SXF,
-    );
-    let a = fixed(a, s, passport::OWN_LENGTH, passport::OWN_LENGTH_IS, EDITION);
-    let a = fixed(a, s, passport::EDITION, passport::EDITION_IS, EDITION);
-    let a = fixed(a, s, passport::SUM, sum, SUM);
-    let a = text(a, s, passport::DATE, passport::DATE_WIDTH);
-    let a = text(a, s, passport::DESIGNATION, passport::DESIGNATION_WIDTH);
-    text(a, s, passport::TITLE, passport::TITLE_WIDTH)
+        Reason::NotSxf,
+    )?;
+    fixed(
+        s,
+        passport::OWN_LENGTH,
+        passport::OWN_LENGTH_IS,
+        Reason::Edition,
+    )?;
+    fixed(s, passport::EDITION, passport::EDITION_IS, Reason::Edition)?;
+    fixed(s, passport::SUM, sum, Reason::Sum)?;
+    text(s, passport::DATE, passport::DATE_WIDTH)?;
+    text(s, passport::DESIGNATION, passport::DESIGNATION_WIDTH)?;
+    text(s, passport::TITLE, passport::TITLE_WIDTH)
 }
 
-// All checks on passport and descriptor of a sheet with that sum.
-pub fn check(s: &[u8], sum: u32, year: u32) -> Step
-    requires { (start ≤ length s.now) × (sum ≡ sum_of s.now) }
-    ensures { Next Fine year 0 (head_checks s.now) result }
+#[tactic(auto, using(fields::proofs::Laws::Chain::checked_both), unfolding(layout::specs::Reading::Sheets::descriptor_checks, layout::specs::Reading::Sheets::reserved_checks))]
+fn check_descriptor(s: &[u8], year: u32) -> Result<(), Refusal>
+    requires { start ≤ length s.now }
+    ensures { result ≡ checked year 0 (all_descriptor_checks s.now) }
 {
-    let a = check_passport(s, sum);
-    let a = flags::rest_checks(
-        a,
-        numbers::part(s, passport::REST, passport::REST_WIDTH),
-        year,
-    );
-    let a = fixed(
-        a,
+    fixed(
         s,
         descriptor::IDENTIFIER,
         descriptor::IDENTIFIER_IS,
-        NOT_SXF,
-    );
-    let a = fixed(
-        a,
+        Reason::NotSxf,
+    )?;
+    fixed(
         s,
         descriptor::OWN_LENGTH,
         descriptor::OWN_LENGTH_IS,
-        EDITION,
-    );
-    let a = text(a, s, descriptor::DESIGNATION, descriptor::DESIGNATION_WIDTH);
-    let a = flags::carried_checks(
-        a,
+        Reason::Edition,
+    )?;
+    text(s, descriptor::DESIGNATION, descriptor::DESIGNATION_WIDTH)?;
+    flags::carried_checks(
         numbers::part(s, descriptor::CARRIED, descriptor::CARRIED_WIDTH),
         year,
-    );
+    )?;
     demand(
-        a,
         texts::all_zero(numbers::part(s, descriptor::RESERVED, descriptor::RESERVED_WIDTH)),
-        RESERVED,
-        0,
+        Reason::Reserved,
         descriptor::RESERVED,
     )
+}
+
+// All checks on passport and descriptor of a sheet with that sum.
+#[tactic(auto, using(fields::proofs::Laws::Chain::checked_both))]
+pub fn check(s: &[u8], sum: u32, year: u32) -> Result<(), Refusal>
+    requires { (start ≤ length s.now) × (sum ≡ sum_of s.now) }
+    ensures { result ≡ checked year 0 (head_checks s.now) }
+{
+    check_passport(s, sum)?;
+    flags::rest_checks(numbers::part(s, passport::REST, passport::REST_WIDTH), year)?;
+    check_descriptor(s, year)
 }

@@ -5,42 +5,18 @@ pub const FILL: u64 = 0xA5A5A5A5A5A5A5A5;
 
 pub const FILL_BYTE: u8 = 0xA5;
 
-fn number_at(stated: &[u64], i: usize) -> u64 {
-    if i < stated.len() { stated[i] } else { FILL }
-}
-
-fn byte_at(stated: &[u8], i: usize) -> u8 {
-    if i < stated.len() {
-        stated[i]
-    } else {
-        FILL_BYTE
+fn is_as<T: Copy + PartialEq>(lent: &[T], stated: &[T], fill: T) -> bool {
+    match lent.strip_prefix(stated) {
+        Some(rest) => rest.iter().all(|x| *x == fill),
+        None => false,
     }
 }
 
+// Each type has a filling of its own, which these two save their callers.
 pub fn numbers_as(lent: &[u64], stated: &[u64]) -> bool {
-    if lent.len() < stated.len() {
-        return false;
-    }
-    let mut i = 0;
-    while i < lent.len() {
-        if lent[i] != number_at(stated, i) {
-            return false;
-        }
-        i += 1;
-    }
-    true
+    is_as(lent, stated, FILL)
 }
 
 pub fn bytes_as(lent: &[u8], stated: &[u8]) -> bool {
-    if lent.len() < stated.len() {
-        return false;
-    }
-    let mut i = 0;
-    while i < lent.len() {
-        if lent[i] != byte_at(stated, i) {
-            return false;
-        }
-        i += 1;
-    }
-    true
+    is_as(lent, stated, FILL_BYTE)
 }

@@ -1,51 +1,39 @@
 // The lines.
+use layout::Refusal;
 use meanings::setting::Setting;
-use std::io;
+use std::fmt;
 
-fn number(rt: &impl Print, n: u64) -> io::Result<()> {
-    print!(rt; " {n}")
+// What became of a sheet: how many bytes it has, or the refusal.
+#[derive(Clone, Copy)]
+pub enum Outcome {
+    Failed,
+    Again(usize),
+    ReadBack(usize),
+    Refused(Refusal),
 }
 
-fn setting(rt: &impl Print, at: Setting) -> io::Result<()> {
-    rt.print(" at")?;
-    number(rt, at.year() as u64)?;
-    rt.print("\n")
+#[derive(Clone, Copy)]
+pub struct Line<'a> {
+    pub name: &'a str,
+    pub outcome: Outcome,
+    pub at: Setting,
 }
 
-pub fn failed(rt: &impl Print, name: &[u8], at: Setting) -> io::Result<()> {
-    rt.print("FAILED ")?;
-    rt.write_all(name)?;
-    setting(rt, at)
-}
-
-// So many bytes, and what became of them.
-pub fn done(
-    rt: &impl Print,
-    name: &[u8],
-    length: usize,
-    what: &[u8],
-    at: Setting,
-) -> io::Result<()> {
-    rt.write_all(name)?;
-    number(rt, length as u64)?;
-    rt.print(" bytes ")?;
-    rt.write_all(what)?;
-    setting(rt, at)
-}
-
-// A refusal: number, place and year.
-pub fn refused(
-    rt: &impl Print,
-    name: &[u8],
-    number_of: u32,
-    place: usize,
-    year: u32,
-    at: Setting,
-) -> io::Result<()> {
-    rt.write_all(name)?;
-    rt.print(" REFUSED")?;
-    number(rt, number_of as u64)?;
-    number(rt, place as u64)?;
-    number(rt, year as u64)?;
-    setting(rt, at)
+impl fmt::Display for Line<'_> {
+    fn fmt<W: fmt::Write>(&self, f: &mut fmt::Formatter<W>) -> fmt::Result {
+        let name = self.name;
+        match self.outcome {
+            Outcome::Failed => write!(f, "FAILED {name}")?,
+            Outcome::Again(length) => write!(f, "{name} {length} bytes again")?,
+            Outcome::ReadBack(length) => write!(f, "{name} {length} bytes read back")?,
+            Outcome::Refused(r) => write!(
+                f,
+                "{name} REFUSED {} {} {}",
+                r.reason.number(),
+                r.place,
+                r.year
+            )?,
+        }
+        write!(f, " at {}", self.at.year())
+    }
 }

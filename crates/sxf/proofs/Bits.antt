@@ -15,6 +15,7 @@ use lib.Ieee.Bits.{of_bits-to_bits, of_bits-fits}
 use lib.Ieee.Fits.{of_int-fits, fits_widens}
 use lib.Ieee.{Float, binary32, binary64, nan_bits, of_bits, to_bits, of_int, in_float, to_signed}
 use lib.Signed.{mag}
+use Rattle.std.specs.Prelude.{Ok}
 
 -- the bits of an element of eight bytes, a NaN's too
 double-bits : (t : Bool) (b : ℕ) → nan_bits binary64 b ≡ t → b < 2 ^ 64 → number_bits (cond t (Is.NotNumber b) (Is.Double (of_bits binary64 b))) ≡ b
@@ -25,12 +26,12 @@ pub element-stored : (b : ℕ) → b < 2 ^ 64 → number_bits (number_of (As.Dou
 unfolding number_of
 element-stored b h = double-bits (nan_bits binary64 b) b refl h
 
-value-bits : (t : Bool) (b : ℕ) → nan_bits binary64 b ≡ t → b < 2 ^ 64 → (value_row (cond t (Value.NotNumber b) (Value.Double (of_bits binary64 b)))).bits ≡ b
+value-bits : (t : Bool) (b : ℕ) → nan_bits binary64 b ≡ t → b < 2 ^ 64 → (value_row (Ok (cond t (Value.NotNumber b) (Value.Double (of_bits binary64 b))))).bits ≡ b
 unfolding value_row
 value-bits true b e h = refl
 value-bits false b e h = has_bits b h e
 
-pub value-stored : (b : ℕ) → b < 2 ^ 64 → (value_row (double_of b)).bits ≡ b
+pub value-stored : (b : ℕ) → b < 2 ^ 64 → (value_row (Ok (double_of b))).bits ≡ b
 unfolding double_of
 value-stored b h = value-bits (nan_bits binary64 b) b refl h
 

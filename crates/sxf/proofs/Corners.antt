@@ -7,18 +7,20 @@ use Rattle.layout.specs.Answers.Enums.{corners_in}
 use Rattle.layout.specs.Bytes.{Bytes, number}
 use Rattle.layout.specs.Sheet.{Sheet}
 use Rattle.layout.specs.Walk.{Answer, given, refused}
-use Rattle.layout.specs.declared.CornerBits.{CornerBits}
+use Rattle.layout.specs.declared.PlaneCorners.{PlaneCorners}
 use Rattle.laws.proofs.Base.Lists.{all_drop}
 use Rattle.laws.proofs.Base.Numbers.{number_lt}
 use Rattle.laws.proofs.Called.{reading-sound}
 use Rattle.layout.specs.Answers.Structs.{corners_row, bits_row}
-use Rattle.sxf.proofs.Laws.Numbers.{is_number}
+use Rattle.layout.specs.declared.Corners.{Corners}
+use Rattle.std.specs.Prelude.{Ok}
+use Rattle.sxf.proofs.Laws.Numbers.{is_number, of_given, of_refused}
 use Rattle.sxf.specs.Doubles.{Defined}
 use Rattle.meanings.proofs.Same.{Words, by_eight, all_back}
 use Rattle.meanings.specs.Places.{first_none}
 use lib.Ieee.{binary64}
 
-bits_defined : (c : CornerBits) → Defined (corners_of c)
+bits_defined : (c : PlaneCorners ℕ) → Defined (corners_of c)
 unfolding Defined
 bits_defined c =
     by_eight (λ m n. Defined m) c (λ place. tt) λ r.
@@ -33,14 +35,14 @@ bits_defined c =
       se_y = is_number binary64 c.se_y r.1.1.1.1.1.1.1.0;
     }
 
-pub sheet_defined : (a : Answer Sheet) → Defined (corners_in a)
-unfolding corners_in Defined
-sheet_defined (given t) = bits_defined (corner_bits t.head.rest)
-sheet_defined (refused n p y) = tt
+pub sheet_defined : (a : Answer Sheet) (x : Corners) → corners_in a ≡ Ok x → Defined x
+unfolding corners_in
+sheet_defined (given t) x e = of_given Defined (corners_of (corner_bits t.head.rest)) x (bits_defined (corner_bits t.head.rest)) e
+sheet_defined (refused n p y) x e = of_refused Defined _ x e
 
-bits-row : (c : CornerBits) → Words c → corners_row (corners_of c) ≡ bits_row (first_none c) c
+bits-row : (c : PlaneCorners ℕ) → Words c → corners_row (Ok (corners_of c)) ≡ bits_row (first_none c) c
 unfolding corners_row
-bits-row c w = by_eight (λ m n. corners_row m ≡ bits_row n c) c (λ place. refl) (λ r. ap (bits_row 0) (all_back c w r))
+bits-row c w = by_eight (λ m n. corners_row (Ok m) ≡ bits_row n c) c (λ place. refl) (λ r. ap (bits_row 0) (all_back c w r))
 
 word : (k : ℕ) (rest : List ℕ) → Bytes rest → number 8 (drop k rest) < 2 ^ 64
 word k rest b = number_lt 8 (drop k rest) (all_drop _ k rest b)

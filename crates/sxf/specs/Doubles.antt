@@ -12,7 +12,7 @@ abbrev pub IsNumber : Float → Type 0
 IsNumber x = T (not (is_nan x))
 
 -- all eight are
-pub record Numbers (d : PlaneCorners) : Type 0 where
+pub record Numbers (d : PlaneCorners Float) : Type 0 where
   pub sw_x : IsNumber d.sw_x
   pub sw_y : IsNumber d.sw_y
   pub nw_x : IsNumber d.nw_x
@@ -35,10 +35,8 @@ DefinedValue (Value.Number d) = Unit {0}
 DefinedValue (Value.Double x) = IsNumber x
 DefinedValue (Value.NotNumber b) = Unit {0}
 DefinedValue (Value.Other t) = Unit {0}
-DefinedValue (Value.Refused r) = Unit {0}
 
 -- the doubles of an answer, if it has them
 unfoldable pub Defined : Corners → Type 0
 Defined (Corner.Doubles d) = Numbers d
 Defined (Corner.Bits place b) = Unit {0}
-Defined (Corner.Refused r) = Unit {0}

@@ -4,8 +4,9 @@ ghost use Rattle.layout.specs.Answers.Structs.{number_kind, number_bits, stored_
 ghost use Rattle.layout.specs.Answers.Units.{number_of};
 ghost use Rattle.sxf.specs.Doubles.{DefinedNumber};
 
+use crate::rows::{Answered, row_of};
 use crate::units::{height_unit_known, unit_known};
-use layout::refusals::ASK;
+use layout::refusals::Reason;
 use layout::structs::{SxfCoordinate, SxfUnit};
 use layout::{Dimension, Measured, Number, Refusal, Stored, passport, structs};
 use reading::coordinates::measure_of;
@@ -24,6 +25,7 @@ fn number_kind(n: Number) -> u64
 }
 
 // The bits of the double that a number stands for. A float here is no NaN, whose bits would be undefined; `NotNumber` has its stored bits.
+#[tactic(auto, unfolding(crate::specs::Doubles::DefinedNumber))]
 fn number_bits(n: Number) -> u64
     requires { DefinedNumber n }
     ensures { result ≡ number_bits n }
@@ -63,14 +65,22 @@ fn coordinate_as(u: SxfUnit, e: Stored) -> SxfCoordinate
     }
 }
 
-fn coordinate_row(m: Measured) -> SxfCoordinate
-    ensures { result ≡ coordinate_row m }
-{
-    match m {
-        Measured::Plane(u, e) => coordinate_as(unit_known(u), e),
-        Measured::Height(u, e) => coordinate_as(height_unit_known(u), e),
-        Measured::Refused(r) => SxfCoordinate {
-            number: r.number as u64,
+#[tactic(auto, unfolding(layout::specs::Answers::Structs::coordinate_row))]
+impl Answered for Measured {
+    type Row = SxfCoordinate;
+
+    ghost as_row = { coordinate_row };
+
+    fn given(self) -> SxfCoordinate {
+        match self {
+            Measured::Plane(u, e) => coordinate_as(unit_known(u), e),
+            Measured::Height(u, e) => coordinate_as(height_unit_known(u), e),
+        }
+    }
+
+    fn refused(r: Refusal) -> SxfCoordinate {
+        SxfCoordinate {
+            number: r.reason.number() as u64,
             place: r.place as u64,
             year: r.year as u64,
             unit: 0,
@@ -78,24 +88,26 @@ fn coordinate_row(m: Measured) -> SxfCoordinate
             width: 0,
             kind: structs::NO_NUMBER,
             bits: 0,
-        },
+        }
     }
 }
 
+// C has a dimension as a number.
+#[tactic(auto, unfolding(layout::specs::Answers::Structs::measure_by))]
 fn measure_by(
     rest: &[u8; passport::REST_WIDTH],
     reference: u32,
     dimension: u32,
     bits: u64,
-) -> Measured
+) -> Result<Measured, Refusal>
     ensures { result ≡ measure_by rest.now reference dimension bits }
 {
     match dimension {
         structs::NORTH => measure_of(rest, reference, Dimension::North, bits),
         structs::EAST => measure_of(rest, reference, Dimension::East, bits),
         structs::HEIGHT => measure_of(rest, reference, Dimension::Height, bits),
-        _ => Measured::Refused(Refusal {
-            number: ASK,
+        _ => Err(Refusal {
+            reason: Reason::Ask,
             place: 0,
             year: 0,
         }),
@@ -112,5 +124,5 @@ pub extern "C" fn sxf_coordinate_of(
 ) -> SxfCoordinate
     ensures { result ≡ coordinate_row (measure_by rest.now reference dimension bits) }
 {
-    coordinate_row(measure_by(rest, reference, dimension, bits))
+    row_of(measure_by(rest, reference, dimension, bits))
 }

@@ -5,31 +5,38 @@ ghost use Rattle.layout.specs.Answers.Enums.{headed_of, unit_in, corners_in};
 ghost use Rattle.layout.specs.Answers.Structs.{head_row, unit_row, corners_row, bits_row, bits_of};
 ghost use Rattle.sxf.specs.Doubles.{Numbers, Defined};
 
-use crate::{flags, units};
+use crate::rows::{Answered, row_of};
+use crate::units::unit_known;
 use layout::structs::{SxfCorners, SxfHead, SxfUnit};
-use layout::{CornerBits, Corners, Headed, PlaneCorners, Refusal, UnitAnswer};
+use layout::{Corners, HeadAt, PlaneCorners, Refusal, SheetUnit};
 use reading::heads;
 
-fn head_row(h: Headed) -> SxfHead
-    ensures { result ≡ head_row h }
-{
-    match h {
-        Headed::Head(x) => SxfHead {
+#[tactic(auto, unfolding(layout::specs::Answers::Structs::head_row))]
+impl Answered for HeadAt {
+    type Row = SxfHead;
+
+    ghost as_row = { head_row };
+
+    fn given(self) -> SxfHead {
+        SxfHead {
             number: 0,
             place: 0,
             year: 0,
-            date: x.date as u64,
-            designation: x.designation as u64,
-            title: x.title as u64,
-            designation2: x.designation2 as u64,
-            scale: x.scale as u64,
-            date_clean: flags::one_if(x.date_clean),
-            designation_clean: flags::one_if(x.designation_clean),
-            title_clean: flags::one_if(x.title_clean),
-            designation2_clean: flags::one_if(x.designation2_clean),
-        },
-        Headed::Refused(r) => SxfHead {
-            number: r.number as u64,
+            date: self.date.length as u64,
+            designation: self.designation.length as u64,
+            title: self.title.length as u64,
+            designation2: self.designation2.length as u64,
+            scale: self.scale as u64,
+            date_clean: u64::from(self.date.clean),
+            designation_clean: u64::from(self.designation.clean),
+            title_clean: u64::from(self.title.clean),
+            designation2_clean: u64::from(self.designation2.clean),
+        }
+    }
+
+    fn refused(r: Refusal) -> SxfHead {
+        SxfHead {
+            number: r.reason.number() as u64,
             place: r.place as u64,
             year: r.year as u64,
             date: 0,
@@ -41,7 +48,7 @@ fn head_row(h: Headed) -> SxfHead
             designation_clean: 0,
             title_clean: 0,
             designation2_clean: 0,
-        },
+        }
     }
 }
 
@@ -49,21 +56,27 @@ fn head_row(h: Headed) -> SxfHead
 pub extern "C" fn sxf_head_of(sheet: &[u8], year: u32) -> SxfHead
     ensures { result ≡ head_row (headed_of (reading year sheet.now)) }
 {
-    head_row(heads::head_by_year(sheet, year))
+    row_of(heads::head_by_year(sheet, year))
 }
 
-fn unit_row(u: UnitAnswer) -> SxfUnit
-    ensures { result ≡ unit_row u }
-{
-    match u {
-        UnitAnswer::Unit(x) => units::unit_known(x),
-        UnitAnswer::Refused(r) => SxfUnit {
-            number: r.number as u64,
+#[tactic(auto, unfolding(layout::specs::Answers::Structs::unit_row))]
+impl Answered for SheetUnit {
+    type Row = SxfUnit;
+
+    ghost as_row = { unit_row };
+
+    fn given(self) -> SxfUnit {
+        unit_known(self)
+    }
+
+    fn refused(r: Refusal) -> SxfUnit {
+        SxfUnit {
+            number: r.reason.number() as u64,
             place: r.place as u64,
             year: r.year as u64,
             unit: 0,
             byte: 0,
-        },
+        }
     }
 }
 
@@ -71,15 +84,15 @@ fn unit_row(u: UnitAnswer) -> SxfUnit
 pub extern "C" fn sxf_unit_of(sheet: &[u8], year: u32) -> SxfUnit
     ensures { result ≡ unit_row (unit_in (reading year sheet.now)) }
 {
-    unit_row(heads::unit_by_year(sheet, year))
+    row_of(heads::unit_by_year(sheet, year))
 }
 
-// The bits of eight doubles, which are undefined at a NaN.
-fn bits_of(d: PlaneCorners) -> CornerBits
+// The bits of eight doubles, which are undefined at a NaN. A map over corners would say eight things in its contract, and is no plainer.
+fn bits_of(d: PlaneCorners<f64>) -> PlaneCorners<u64>
     requires { Numbers d }
     ensures { result ≡ bits_of d }
 {
-    CornerBits {
+    PlaneCorners {
         sw_x: f64::to_bits(d.sw_x),
         sw_y: f64::to_bits(d.sw_y),
         nw_x: f64::to_bits(d.nw_x),
@@ -91,7 +104,7 @@ fn bits_of(d: PlaneCorners) -> CornerBits
     }
 }
 
-fn bits_row(nan_at: usize, b: CornerBits) -> SxfCorners
+fn bits_row(nan_at: usize, b: PlaneCorners<u64>) -> SxfCorners
     ensures { result ≡ bits_row nan_at b }
 {
     SxfCorners {
@@ -110,33 +123,36 @@ fn bits_row(nan_at: usize, b: CornerBits) -> SxfCorners
     }
 }
 
-fn no_corners(r: Refusal) -> SxfCorners
-    ensures { result ≡ corners_row (Corners.Refused r) }
-{
-    SxfCorners {
-        number: r.number as u64,
-        place: r.place as u64,
-        year: r.year as u64,
-        nan_at: 0,
-        sw_x: 0,
-        sw_y: 0,
-        nw_x: 0,
-        nw_y: 0,
-        ne_x: 0,
-        ne_y: 0,
-        se_x: 0,
-        se_y: 0,
-    }
-}
+#[tactic(auto, unfolding(layout::specs::Answers::Structs::corners_row, crate::specs::Doubles::Defined))]
+impl Answered for Corners {
+    type Row = SxfCorners;
 
-fn corners_row(c: Corners) -> SxfCorners
-    requires { Defined c }
-    ensures { result ≡ corners_row c }
-{
-    match c {
-        Corners::Doubles(d) => bits_row(0, bits_of(d)),
-        Corners::Bits(place, b) => bits_row(place, b),
-        Corners::Refused(r) => no_corners(r),
+    ghost as_row = { corners_row };
+
+    ghost defined = { Defined };
+
+    fn given(self) -> SxfCorners {
+        match self {
+            Corners::Doubles(d) => bits_row(0, bits_of(d)),
+            Corners::Bits(place, b) => bits_row(place, b),
+        }
+    }
+
+    fn refused(r: Refusal) -> SxfCorners {
+        SxfCorners {
+            number: r.reason.number() as u64,
+            place: r.place as u64,
+            year: r.year as u64,
+            nan_at: 0,
+            sw_x: 0,
+            sw_y: 0,
+            nw_x: 0,
+            nw_y: 0,
+            ne_x: 0,
+            ne_y: 0,
+            se_x: 0,
+            se_y: 0,
+        }
     }
 }
 
@@ -144,5 +160,5 @@ fn corners_row(c: Corners) -> SxfCorners
 pub extern "C" fn sxf_corners_of(sheet: &[u8], year: u32) -> SxfCorners
     ensures { result ≡ corners_row (corners_in (reading year sheet.now)) }
 {
-    corners_row(heads::corners_by_year(sheet, year))
+    row_of(heads::corners_by_year(sheet, year))
 }

@@ -7,10 +7,10 @@ ghost use Rattle.layout.specs.Answers.Structs.{written_row, index_row};
 ghost use Rattle.layout.specs.Index.Reading.{file_kind, entries_in};
 ghost use Rattle.layout.specs.Index.Selecting.{index_of, selected, picked, entry_rows};
 
-use crate::written::written_row;
+use crate::rows::{Answered, row_of};
 use index::{files, sheets};
-use layout::Indexed;
 use layout::structs::{SxfIndex, SxfWritten};
+use layout::{IndexSizes, Refusal};
 
 #[unsafe(no_mangle)]
 pub extern "C" fn sxf_index_build(sheet: &[u8], year: u32, index: &mut [u8]) -> SxfWritten
@@ -18,27 +18,33 @@ pub extern "C" fn sxf_index_build(sheet: &[u8], year: u32, index: &mut [u8]) -> 
     ensures written { index.new ≡ lent the_given (roomed (length index.old) (index_of year sheet.now))
         index.old }
 {
-    written_row(sheets::build_by_year(sheet, year, index))
+    row_of(sheets::build_by_year(sheet, year, index))
 }
 
-fn index_row(i: Indexed) -> SxfIndex
-    ensures { result ≡ index_row i }
-{
-    match i {
-        Indexed::Accepted(z) => SxfIndex {
+#[tactic(auto, unfolding(layout::specs::Answers::Structs::index_row))]
+impl Answered for IndexSizes {
+    type Row = SxfIndex;
+
+    ghost as_row = { index_row };
+
+    fn given(self) -> SxfIndex {
+        SxfIndex {
             number: 0,
             place: 0,
             year: 0,
-            entries: z.entries as u64,
-            blocks: z.blocks as u64,
-        },
-        Indexed::Refused(r) => SxfIndex {
-            number: r.number as u64,
+            entries: self.entries as u64,
+            blocks: self.blocks as u64,
+        }
+    }
+
+    fn refused(r: Refusal) -> SxfIndex {
+        SxfIndex {
+            number: r.reason.number() as u64,
             place: r.place as u64,
             year: r.year as u64,
             entries: 0,
             blocks: 0,
-        },
+        }
     }
 }
 
@@ -46,7 +52,7 @@ fn index_row(i: Indexed) -> SxfIndex
 pub extern "C" fn sxf_index_check(index: &[u8]) -> SxfIndex
     ensures { result ≡ index_row (indexed_of (file_kind index.now) (entries_in index.now)) }
 {
-    index_row(files::check(index))
+    row_of(files::check(index))
 }
 
 #[unsafe(no_mangle)]
@@ -55,7 +61,7 @@ pub extern "C" fn sxf_index_read(index: &[u8], entries: &mut [u64]) -> SxfWritte
     ensures written { entries.new ≡ lent the_given (roomed (length entries.old) (entry_rows index.now))
         entries.old }
 {
-    written_row(files::read(index, entries))
+    row_of(files::read(index, entries))
 }
 
 #[unsafe(no_mangle)]
@@ -64,7 +70,7 @@ pub extern "C" fn sxf_index_select(index: &[u8], code: u32, picks: &mut [u64]) -
     ensures written { picks.new ≡ lent the_given (roomed (length picks.old) (selected code index.now))
         picks.old }
 {
-    written_row(files::select(index, code, picks))
+    row_of(files::select(index, code, picks))
 }
 
 #[unsafe(no_mangle)]
@@ -73,5 +79,5 @@ pub extern "C" fn sxf_select(sheet: &[u8], year: u32, code: u32, picks: &mut [u6
     ensures written { picks.new ≡ lent the_given (roomed (length picks.old) (picked year sheet.now code))
         picks.old }
 {
-    written_row(sheets::select_by_year(sheet, year, code, picks))
+    row_of(sheets::select_by_year(sheet, year, code, picks))
 }

@@ -7,11 +7,11 @@
 #![tactic(auto)]
 
 pub mod coordinates;
-mod flags;
 pub mod heads;
 pub mod hops;
 pub mod indexes;
 pub mod records;
+mod rows;
 pub mod sheets;
 pub mod tables;
 pub mod texts;

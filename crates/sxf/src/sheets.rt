@@ -5,26 +5,33 @@ ghost use Rattle.layout.specs.Answers.Enums.{checked_of};
 ghost use Rattle.layout.specs.Answers.Lent.{rooms, the_numbers, the_elements, the_bytes};
 ghost use Rattle.layout.specs.Answers.Structs.{checked_row};
 
-use layout::Checked;
+use crate::rows::{Answered, row_of};
 use layout::structs::SxfChecked;
+use layout::{Refusal, Sizes};
 use reading::sheets;
 
-fn checked_row(c: Checked) -> SxfChecked
-    ensures { result ≡ checked_row c }
-{
-    match c {
-        Checked::Accepted(z) => SxfChecked {
+#[tactic(auto, unfolding(layout::specs::Answers::Structs::checked_row))]
+impl Answered for Sizes {
+    type Row = SxfChecked;
+
+    ghost as_row = { checked_row };
+
+    fn given(self) -> SxfChecked {
+        SxfChecked {
             number: 0,
             place: 0,
             year: 0,
-            sum: z.sum as u64,
-            records: z.records as u64,
-            numbers: z.numbers as u64,
-            elements: z.elements as u64,
-            bytes: z.bytes as u64,
-        },
-        Checked::Refused(r) => SxfChecked {
-            number: r.number as u64,
+            sum: self.sum as u64,
+            records: self.records as u64,
+            numbers: self.numbers as u64,
+            elements: self.elements as u64,
+            bytes: self.bytes as u64,
+        }
+    }
+
+    fn refused(r: Refusal) -> SxfChecked {
+        SxfChecked {
+            number: r.reason.number() as u64,
             place: r.place as u64,
             year: r.year as u64,
             sum: 0,
@@ -32,7 +39,7 @@ fn checked_row(c: Checked) -> SxfChecked
             numbers: 0,
             elements: 0,
             bytes: 0,
-        },
+        }
     }
 }
 
@@ -40,7 +47,7 @@ fn checked_row(c: Checked) -> SxfChecked
 pub extern "C" fn sxf_check(sheet: &[u8], year: u32) -> SxfChecked
     ensures { result ≡ checked_row (checked_of (reading year sheet.now)) }
 {
-    checked_row(sheets::check_by_year(sheet, year))
+    row_of(sheets::check_by_year(sheet, year))
 }
 
 #[unsafe(no_mangle)]
@@ -59,5 +66,5 @@ pub extern "C" fn sxf_unfold(
     ensures texts { bytes.new ≡ lent the_bytes (unfolded year sheet.now
         (rooms table.old elements.old bytes.old)) bytes.old }
 {
-    checked_row(sheets::unfold_by_year(sheet, year, table, elements, bytes))
+    row_of(sheets::unfold_by_year(sheet, year, table, elements, bytes))
 }

@@ -6,7 +6,7 @@ ghost use Rattle.layout.specs.Answers.Enums.{written_of};
 ghost use Rattle.layout.specs.Writing.Tables.{table as table_of};
 ghost use Rattle.layout.specs.Answers.Structs.{written_row};
 
-use crate::written::written_row;
+use crate::rows::row_of;
 use layout::structs::SxfWritten;
 use layout::{descriptor, passport};
 use writing::sheets;
@@ -35,7 +35,7 @@ pub extern "C" fn sxf_write(
         carried.now)
         (table_of table.now elements.now bytes.now) (length out.old)) out.old }
 {
-    written_row(sheets::write_by_year(
+    row_of(sheets::write_by_year(
         date,
         designation,
         scale,

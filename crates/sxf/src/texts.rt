@@ -6,7 +6,7 @@ ghost use Rattle.layout.specs.Answers.Lent.{the_turned};
 ghost use Rattle.layout.specs.Answers.Structs.{written_row};
 ghost use Rattle.layout.specs.Codings.Turning.{to_utf16, from_utf16};
 
-use crate::written::written_row;
+use crate::rows::row_of;
 use codings::utf16;
 use layout::structs::SxfWritten;
 
@@ -16,7 +16,7 @@ pub extern "C" fn sxf_to_utf16(coding: u32, text: &[u8], units: &mut [u16]) -> S
     ensures turned { units.new ≡ lent the_turned (to_utf16 coding text.now (length units.old))
         units.old }
 {
-    written_row(utf16::to_utf16(coding, text, units))
+    row_of(utf16::to_utf16(coding, text, units))
 }
 
 #[unsafe(no_mangle)]
@@ -25,5 +25,5 @@ pub extern "C" fn sxf_from_utf16(coding: u32, units: &[u16], text: &mut [u8]) ->
     ensures turned { text.new ≡ lent the_turned (from_utf16 coding units.now (length text.old))
         text.old }
 {
-    written_row(utf16::from_utf16(coding, units, text))
+    row_of(utf16::from_utf16(coding, units, text))
 }

@@ -17,6 +17,8 @@ fn unit_as(unit: u64, byte: u8) -> SxfUnit
     }
 }
 
+// The two units are two enums, whose cases differ, so each has its own numbers.
+#[tactic(auto, unfolding(layout::specs::Answers::Structs::unit_known))]
 pub fn unit_known(u: SheetUnit) -> SxfUnit
     ensures { result ≡ unit_known u }
 {
@@ -29,6 +31,7 @@ pub fn unit_known(u: SheetUnit) -> SxfUnit
     }
 }
 
+#[tactic(auto, unfolding(layout::specs::Answers::Structs::height_unit_known))]
 pub fn height_unit_known(u: HeightUnit) -> SxfUnit
     ensures { result ≡ height_unit_known u }
 {

@@ -5,23 +5,25 @@ ghost use Rattle.layout.specs.Shared.Visibility.{visibility_of};
 ghost use Rattle.layout.specs.Answers.Structs.{visibility_row, plain_row, value_row};
 ghost use Rattle.sxf.specs.Doubles.{DefinedValue};
 
+use crate::rows::{Answered, row_of};
 use layout::structs::{SxfValue, SxfVisibility};
-use layout::{SemanticValue, Visibility, structs};
+use layout::{Refusal, Scales, SemanticValue, structs};
 use reading::{values, visibility};
 
-fn visibility_row(v: Visibility) -> SxfVisibility
+#[tactic(auto, unfolding(layout::specs::Answers::Structs::visibility_row))]
+fn visibility_row(v: Option<Scales>) -> SxfVisibility
     ensures { result ≡ visibility_row v }
 {
     match v {
-        Visibility::Unset => SxfVisibility {
+        None => SxfVisibility {
             set: 0,
             lower: 0,
             upper: 0,
         },
-        Visibility::Bounds(lower, upper) => SxfVisibility {
+        Some(x) => SxfVisibility {
             set: 1,
-            lower: lower as u64,
-            upper: upper as u64,
+            lower: x.lower as u64,
+            upper: x.upper as u64,
         },
     }
 }
@@ -48,33 +50,41 @@ fn plain_row(kind: u64, bits: u64) -> SxfValue
     }
 }
 
-// The bits of a double are undefined at a NaN.
-fn value_row(v: SemanticValue) -> SxfValue
-    requires { DefinedValue v }
-    ensures { result ≡ value_row v }
-{
-    match v {
-        SemanticValue::Number(d) => SxfValue {
-            number: 0,
-            place: 0,
-            year: 0,
-            kind: structs::DECIMAL,
-            bits: 0,
-            whole: d.whole,
-            power: d.power,
-        },
-        SemanticValue::Double(x) => plain_row(structs::DOUBLE, f64::to_bits(x)),
-        SemanticValue::NotNumber(b) => plain_row(structs::NAN, b),
-        SemanticValue::Other(_) => plain_row(structs::NO_NUMBER, 0),
-        SemanticValue::Refused(r) => SxfValue {
-            number: r.number as u64,
+#[tactic(auto, unfolding(layout::specs::Answers::Structs::value_row, crate::specs::Doubles::DefinedValue))]
+impl Answered for SemanticValue {
+    type Row = SxfValue;
+
+    ghost as_row = { value_row };
+
+    ghost defined = { DefinedValue };
+
+    fn given(self) -> SxfValue {
+        match self {
+            SemanticValue::Number(d) => SxfValue {
+                number: 0,
+                place: 0,
+                year: 0,
+                kind: structs::DECIMAL,
+                bits: 0,
+                whole: d.whole,
+                power: d.power,
+            },
+            SemanticValue::Double(x) => plain_row(structs::DOUBLE, f64::to_bits(x)),
+            SemanticValue::NotNumber(b) => plain_row(structs::NAN, b),
+            SemanticValue::Other(_) => plain_row(structs::NO_NUMBER, 0),
+        }
+    }
+
+    fn refused(r: Refusal) -> SxfValue {
+        SxfValue {
+            number: r.reason.number() as u64,
             place: r.place as u64,
             year: r.year as u64,
             kind: structs::NO_NUMBER,
             bits: 0,
             whole: 0,
             power: 0,
-        },
+        }
     }
 }
 
@@ -82,5 +92,5 @@ fn value_row(v: SemanticValue) -> SxfValue
 pub extern "C" fn sxf_value_of(kind: u8, scale: u8, bits: u64) -> SxfValue
     ensures { result ≡ value_row (semantic_value (item_of kind scale bits)) }
 {
-    value_row(values::value_of(kind, scale, bits))
+    row_of(values::value_of(kind, scale, bits))
 }

@@ -10,17 +10,19 @@ use Rattle.layout.specs.Walk.{answer, up_to}
 use Rattle.layout.specs.Writing.Rows.{rows_walk}
 use Rattle.layout.specs.Writing.Tables.{table}
 use Rattle.writing_check.specs.Tables.{rows_of}
-use Rattle.writing_check.specs.declared.tables.Rows.{Rows}
-use Rattle.writing_check.specs.declared.tables.Rows.TheVariants.{Fine, Refused}
+use Rattle.writing_check.specs.declared.tables.Totals.{Totals}
+use Rattle.layout.specs.declared.Refusal.{Refusal}
+use Rattle.layout.specs.declared.refusals.Reason.{Reason}
+use Rattle.std.specs.Prelude.{Result, Ok, Err}
 
-abbrev taken : ℕ → List ℕ → List ℕ → List ℕ → Rows
+abbrev taken : ℕ → List ℕ → List ℕ → List ℕ → Result Totals Refusal
 taken year ns es bs = rows_of (answer (up_to year) (rows_walk (table ns es bs)))
 
-abbrev fine : ℕ → ℕ → Rows
-fine length records = Fine (record { length = length; records = records })
+abbrev fine : ℕ → ℕ → Result Totals Refusal
+fine length records = Ok (record { length = length; records = records })
 
-abbrev stop : ℕ → ℕ → ℕ → Rows
-stop number place year = Refused (refusal number place year)
+abbrev stop : Reason → ℕ → ℕ → Result Totals Refusal
+stop reason place year = Err (refusal reason place year)
 
 -- the numbers of P and of Q
 abbrev p : List ℕ

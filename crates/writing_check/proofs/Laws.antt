@@ -5,3 +5,4 @@ pub mod Elements
 pub mod Parts
 pub mod Rows
 pub mod Tables
+pub mod Pieces

@@ -34,10 +34,11 @@ size_rules a k left =
     ∷ must (leb a.size left) TABLE Row.item_length
     ∷ []
 
-abbrev pub value_rules : ItemNumbers → Kind → List ℕ → List Check
-value_rules a k pool = size_rules a k (length pool) ++ (must (is_closed k (take a.size pool)) TEXT Row.item_length ∷ [])
+abbrev pub value_rules : ItemNumbers → Kind → ℕ → List ℕ → List Check
+value_rules a k left pool = size_rules a k left ++ (must (is_closed k (take a.size pool)) TEXT Row.item_length ∷ [])
 
 -- together they are the checks of an item
-pub item_rules_lem : (a : ItemNumbers) (k : Kind) (pool : List ℕ) → k ≡ kind_of a.t → head_rules a k ++ value_rules a k pool ≡ item_rules (row_of a) pool
+pub item_rules_lem : (a : ItemNumbers) (k : Kind) (pool : List ℕ) → k ≡ kind_of a.t
+    → head_rules a k ++ value_rules a k (length pool) pool ≡ item_rules (row_of a) pool
 unfolding item_rules
 item_rules_lem a k pool e = rw e refl

@@ -4,3 +4,4 @@ pub mod Items
 pub mod Parts
 pub mod Rows
 pub mod Tables
+pub mod Pieces

@@ -1,5 +1,5 @@
 -- A part in two steps: the rules of its points, and its pools.
-use Rattle.std.specs.Prelude.{◌||◌, cond, List, [], ◌∷◌, ◌++◌, ℕ, ◌+◌, ◌*◌, eqb, leb, ltb, length, take, drop}
+use Rattle.std.specs.Prelude.{◌||◌, cond, List, [], ◌∷◌, ◌++◌, ℕ, ◌+◌, ◌*◌, eqb, leb, ltb, take, drop}
 use Rattle.fields.specs.Shapes.{dimensions, widths_of, point_of}
 use Rattle.fields.specs.declared.shapes.Shape.{Shape}
 use Rattle.layout.specs.Bytes.{repeat}
@@ -12,9 +12,9 @@ use Rattle.layout.specs.Writing.Parts.{fit_all, element_count, element_rules, te
 use Rattle.layout.specs.Writing.Tables.{table, Taker, taken}
 
 -- the checks on the pools, by what the reference bytes say of a part
-abbrev pub elements_by : Shape → ℕ → List ℕ → List Check
-elements_by s points es =
-    must (leb (points * dimensions s.three) (length es)) TABLE Row.points
+abbrev pub elements_by : Shape → ℕ → ℕ → List ℕ → List Check
+elements_by s points left es =
+    must (leb (points * dimensions s.three) left) TABLE Row.points
     ∷ must (fit_all (repeat points (widths_of s)) es) TABLE Row.points
     ∷ []
 
@@ -25,8 +25,9 @@ text_by s size left =
     ∷ must (leb size left) TABLE Row.text_length
     ∷ []
 
-abbrev pub pools_by : Shape → ℕ → ℕ → List ℕ → List ℕ → List Check
-pools_by s points size es pool = elements_by s points es ++ text_by s size (length pool)
+-- elements and bytes are how many are left in the two pools, and es those of the first
+abbrev pub pools_by : Shape → ℕ → ℕ → ℕ → List ℕ → ℕ → List Check
+pools_by s points size elements es bytes = elements_by s points elements es ++ text_by s size bytes
 
 -- how many bytes it has beside a subobject's head
 abbrev pub bytes_by : Shape → ℕ → ℕ → ℕ

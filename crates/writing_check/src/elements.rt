@@ -1,4 +1,4 @@
-// Whether the elements of a part fit their widths: one loop for points of one width, one for points of two.
+// Whether the elements of a part fit their widths: one look for points of one width, one for points of two.
 ghost use Rattle.std.specs.Prelude.{[], ◌∷◌, ◌≡◌, ℕ, ◌+◌, ◌*◌, ◌≤◌, ◌<◌, ◌^◌, length, drop, replicate};
 ghost use Rattle.fields.specs.Shapes.{dimensions, widths_of};
 ghost use Rattle.layout.specs.Bytes.{repeat};
@@ -12,37 +12,26 @@ fn fit_all(elements: &[u64], at: usize, n: usize, bound: u64) -> bool
     requires { at + n ≤ length elements.now }
     ensures { (w : ℕ) → bound ≡ 256 ^ w → result ≡ fit_all (replicate n w) (drop at elements.now) }
 {
-    let mut left = n;
-    let mut i = at;
-    while 0 < left {
-        if bound <= elements[i] {
-            return false;
-        }
-        i += 1;
-        left -= 1;
-    }
-    true
+    elements[at..at + n].iter().all(|e| *e < bound)
 }
 
-// So many points from at on, whose X and Y have two bytes and whose heights have four.
+// So many points from at on, whose X and Y have two bytes and whose heights have four. A loop of its own: a point is three elements with two
+// bounds, and one function for both would carry a list of bounds that it looks up at every element.
 fn fit_points(elements: &[u64], at: usize, points: usize) -> bool
     requires { at + points * 3 ≤ length elements.now }
     ensures { result ≡ fit_all (repeat points (2 ∷ 2 ∷ 4 ∷ [])) (drop at elements.now) }
 {
-    let mut left = points;
-    let mut i = at;
-    while 0 < left {
-        if bounds::TWO_BYTES <= elements[i] {
+    for i in 0..points {
+        let x = at + 3 * i;
+        if bounds::TWO_BYTES <= elements[x] {
             return false;
         }
-        if bounds::TWO_BYTES <= elements[i + 1] {
+        if bounds::TWO_BYTES <= elements[x + 1] {
             return false;
         }
-        if bounds::FOUR_BYTES <= elements[i + 2] {
+        if bounds::FOUR_BYTES <= elements[x + 2] {
             return false;
         }
-        i += 3;
-        left -= 1;
     }
     true
 }

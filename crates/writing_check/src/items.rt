@@ -1,26 +1,25 @@
 // The items of a record: four numbers each, and a value in the pool of bytes.
-ghost use Rattle.std.specs.Prelude.{List, ◌≡◌, ℕ, ◌+◌, ◌*◌, ◌≤◌, ◌<◌, ◌^◌, length, drop};
+ghost use Rattle.std.specs.Prelude.{List, ◌≡◌, ℕ, ◌+◌, ◌-◌, ◌*◌, ◌≤◌, ◌<◌, ◌^◌, length, drop};
+ghost use Rattle.fields.specs.Checks.{checked};
 ghost use Rattle.fields.specs.Kinds.{kind_by};
-ghost use Rattle.fields.specs.Steps.{Next};
-ghost use Rattle.fields.specs.declared.steps.Step.TheVariants.{Fine};
 ghost use Rattle.layout.specs.Fields.{limit};
 ghost use Rattle.layout.specs.Layout.Sizes.{sum_by, item_bytes};
 ghost use Rattle.layout.specs.Shared.Row.{item_width};
 ghost use Rattle.layout.specs.Shared.Types.{kind_of};
 ghost use Rattle.layout.specs.Walk.{answer, up_to};
 ghost use Rattle.layout.specs.Writing.Items.{item_row_in, item_rules, take_item};
-ghost use Rattle.layout.specs.Writing.Tables.{table as table_of, joined, many, flatten_item};
+ghost use Rattle.layout.specs.Writing.Tables.{joined, many, flatten_item};
 ghost use Rattle.writing_check.specs.Items.{row_of, head_rules, size_rules, value_rules, length_of};
-ghost use Rattle.writing_check.specs.Places.{here, moved_of, At};
+ghost use Rattle.writing_check.specs.Places.{lists, with_elements, here, moved_of, AtBy, Any};
 
-use crate::places::{Moved, Places, longer};
-use fields::kinds::{
-    Kind, closing, good_length, good_scale, is_known, is_long, kind_of, length_bytes, value_length,
-};
-use fields::steps::{Step, demand, feature};
+use crate::pieces::take_all;
+use crate::places::{Places, longer};
+use crate::record_table::RecordTable;
+use fields::checks::{demand, feature};
+use fields::kinds::Kind;
 use fields::{numbers, texts};
-use layout::refusals::{SEMANTIC, TABLE, TEXT};
-use layout::{bounds, item, row, years};
+use layout::refusals::Reason;
+use layout::{Refusal, bounds, item, row, years};
 
 // The four numbers of an item's row; t is its type.
 #[derive(Clone, Copy)]
@@ -31,129 +30,104 @@ pub struct ItemNumbers {
     pub size: u64,
 }
 
-fn read_item(table: &[u64], at: usize) -> ItemNumbers
-    requires { at + item_width ≤ length table.now }
-    ensures { row_of result ≡ item_row_in (drop at table.now) }
-{
-    ItemNumbers {
-        code: table[at],
-        t: table[at + row::ITEM_TYPE],
-        scale: table[at + row::ITEM_SCALE],
-        size: table[at + row::ITEM_LENGTH],
-    }
-}
-
-// The rules on code, type and scale.
-fn head_rules(a: ItemNumbers, k: Kind, place: usize, year: u32) -> Step
-    requires { place + item_width ≤ 2 ^ 64 }
-    ensures { Next Fine year place (head_rules a (kind_by k)) result }
-{
-    let s = demand(
-        Step::Fine,
-        a.code < bounds::TWO_BYTES,
-        TABLE,
-        place,
-        row::ITEM_CODE,
-    );
-    let s = demand(s, a.t < bounds::ONE_BYTE, TABLE, place, row::ITEM_TYPE);
-    let s = demand(s, is_known(k), SEMANTIC, place, row::ITEM_TYPE);
-    let s = feature(s, is_long(k), years::TYPE_128, place, row::ITEM_TYPE, year);
-    let s = demand(s, a.scale < bounds::ONE_BYTE, TABLE, place, row::ITEM_SCALE);
-    demand(s, good_scale(k, a.scale), SEMANTIC, place, row::ITEM_SCALE)
-}
-
-// The rules on the value length, with so many bytes left in the pool.
-fn size_rules(a: ItemNumbers, k: Kind, left: usize, place: usize) -> Step
-    requires { (place + item_width ≤ 2 ^ 64) × (a.scale < 256) }
-    ensures { (y : ℕ) → Next Fine y place (size_rules a (kind_by k) left) result }
-{
-    let size = a.size as usize;
-    let own = value_length(k, a.scale as u8, size);
-    let s = demand(
-        Step::Fine,
-        a.size < bounds::FOUR_BYTES,
-        TABLE,
-        place,
-        row::ITEM_LENGTH,
-    );
-    let s = demand(s, size == own, TABLE, place, row::ITEM_LENGTH);
-    let s = demand(s, good_length(k, size), SEMANTIC, place, row::ITEM_LENGTH);
-    demand(s, size <= left, TABLE, place, row::ITEM_LENGTH)
-}
-
-// The rules on the value: its length, and its closing zeros in the pool from `at` on.
-fn value_rules(bytes: &[u8], at: usize, a: ItemNumbers, k: Kind, place: usize) -> Step
-    requires { (at ≤ length bytes.now) × (place + item_width ≤ 2 ^ 64) × (a.scale < 256) }
-    ensures { (y : ℕ) → Next Fine y place (value_rules a (kind_by k) (drop at bytes.now)) result }
-{
-    match size_rules(a, k, bytes.len() - at, place) {
-        Step::Fine => {
-            let zeros = closing(k);
-            let end = at + a.size as usize - zeros;
-            let closed = texts::all_zero(numbers::part(bytes, end, zeros));
-            demand(Step::Fine, closed, TEXT, place, row::ITEM_LENGTH)
+impl ItemNumbers {
+    fn read(numbers: &[u64], at: usize) -> ItemNumbers
+        requires { at + item_width ≤ length numbers.now }
+        ensures { row_of result ≡ item_row_in (drop at numbers.now) }
+    {
+        ItemNumbers {
+            code: numbers[at],
+            t: numbers[at + row::ITEM_TYPE],
+            scale: numbers[at + row::ITEM_SCALE],
+            size: numbers[at + row::ITEM_LENGTH],
         }
-        Step::Refused(r) => Step::Refused(r),
+    }
+
+    // The rules on code, type and scale.
+    fn head_rules(self, k: Kind, place: usize, year: u32) -> Result<(), Refusal>
+        requires { place + item_width ≤ 2 ^ 64 }
+        ensures { result ≡ checked year place (head_rules self (kind_by k)) }
+    {
+        let at_type = place + row::ITEM_TYPE;
+        let at_scale = place + row::ITEM_SCALE;
+        demand(
+            self.code < bounds::TWO_BYTES,
+            Reason::Table,
+            place + row::ITEM_CODE,
+        )?;
+        demand(self.t < bounds::ONE_BYTE, Reason::Table, at_type)?;
+        demand(k.is_known(), Reason::Semantic, at_type)?;
+        feature(k.is_long(), years::TYPE_128, at_type, year)?;
+        demand(self.scale < bounds::ONE_BYTE, Reason::Table, at_scale)?;
+        demand(k.good_scale(self.scale), Reason::Semantic, at_scale)
+    }
+
+    // The rules on the value length, with so many bytes left in the pool.
+    fn size_rules(self, k: Kind, left: usize, place: usize) -> Result<(), Refusal>
+        requires { (place + item_width ≤ 2 ^ 64) × (self.scale < 256) }
+        ensures { (y : ℕ) → result ≡ checked y place (size_rules self (kind_by k) left) }
+    {
+        let at = place + row::ITEM_LENGTH;
+        let size = self.size as usize;
+        let own = k.value_length(self.scale as u8, size);
+        demand(self.size < bounds::FOUR_BYTES, Reason::Table, at)?;
+        demand(size == own, Reason::Table, at)?;
+        demand(k.good_length(size), Reason::Semantic, at)?;
+        demand(size <= left, Reason::Table, at)
+    }
+
+    // The rules on the value: its length, and its closing zeros in the pool from `at` on.
+    fn value_rules(self, bytes: &[u8], at: usize, k: Kind, place: usize) -> Result<(), Refusal>
+        requires { (at ≤ length bytes.now) × (place + item_width ≤ 2 ^ 64) × (self.scale < 256) }
+        ensures { (y : ℕ) → result ≡ checked y place (value_rules self (kind_by k) (length bytes.now - at) (drop at bytes.now)) }
+    {
+        self.size_rules(k, bytes.len() - at, place)?;
+        let zeros = k.closing();
+        let end = at + self.size as usize - zeros;
+        let closed = texts::all_zero(numbers::part(bytes, end, zeros));
+        demand(closed, Reason::Text, place + row::ITEM_LENGTH)
+    }
+
+    // All checks on an item of a kind whose value starts at a place of the pool.
+    fn rules(self, bytes: &[u8], at: usize, k: Kind, place: usize, year: u32) -> Result<(), Refusal>
+        requires { (at ≤ length bytes.now) × (place + item_width ≤ 2 ^ 64) × (kind_by k ≡ kind_of self.t) }
+        ensures { result ≡ checked year place (item_rules (row_of self) (drop at bytes.now)) }
+    {
+        self.head_rules(k, place, year)?;
+        self.value_rules(bytes, at, k, place)
+    }
+
+    // How many bytes an item of a kind has that was let through.
+    fn length(self, k: Kind) -> usize
+        requires { self.size < 2 ^ 32 }
+        ensures { (result ≡ length_of self (kind_by k)) × (result < 2 ^ 33) }
+    {
+        item::SIZE + (k.length_bytes() + self.size as usize)
     }
 }
 
-// All checks on an item of a kind whose value starts at a place of the pool.
-fn item_rules(bytes: &[u8], at: usize, a: ItemNumbers, k: Kind, place: usize, year: u32) -> Step
-    requires { (at ≤ length bytes.now) × (place + item_width ≤ 2 ^ 64) × (kind_by k ≡ kind_of a.t) }
-    ensures { Next Fine year place (item_rules (row_of a) (drop at bytes.now)) result }
-{
-    match head_rules(a, k, place, year) {
-        Step::Fine => value_rules(bytes, at, a, k, place),
-        Step::Refused(r) => Step::Refused(r),
-    }
-}
-
-// How many bytes an item of a kind has that was let through.
-fn item_length(a: ItemNumbers, k: Kind) -> usize
-    requires { a.size < 2 ^ 32 }
-    ensures { (result ≡ length_of a (kind_by k)) × (result < 2 ^ 33) }
-{
-    item::SIZE + (length_bytes(k) + a.size as usize)
-}
-
-// Takes one item.
-pub fn take_item(table: &[u64], bytes: &[u8], p: Places, year: u32) -> Moved
-    requires { (p.number + item_width ≤ length table.now) × (p.byte ≤ length bytes.now) × (p.length ≤ limit + 1) }
+// Takes one item, whatever the elements are.
+pub fn take_item(t: &RecordTable, p: Places, year: u32) -> Result<Places, Refusal>
+    requires { (p.number + item_width ≤ length t.now.numbers.now) × (p.byte ≤ length t.now.bytes.now) × (p.length ≤ limit + 1) }
     ensures { (es : List ℕ) → result ≡ moved_of flatten_item item_bytes p
-        (answer (up_to year) (take_item p.number (here (table_of table.now es bytes.now) p))) }
+        (answer (up_to year) (take_item p.number (here (with_elements es t.now) p))) }
 {
-    let number = p.number;
-    let a = read_item(table, number);
-    let k = kind_of(a.t);
-    match item_rules(bytes, p.byte, a, k, number, year) {
-        Step::Fine => Moved::Fine(Places {
-            number: number + row::ITEM_WIDTH,
-            element: p.element,
-            byte: p.byte + a.size as usize,
-            length: longer(p.length, item_length(a, k)),
-        }),
-        Step::Refused(r) => Moved::Refused(r),
-    }
+    let a = ItemNumbers::read(t.numbers, p.number);
+    let k = Kind::from(a.t);
+    a.rules(t.bytes, p.byte, k, p.number, year)?;
+    Ok(Places {
+        number: p.number + row::ITEM_WIDTH,
+        element: p.element,
+        byte: p.byte + a.size as usize,
+        length: longer(p.length, a.length(k)),
+    })
 }
 
 // Takes n items, one after another.
-pub fn take_items(table: &[u64], bytes: &[u8], p: Places, n: u64, year: u32) -> Moved
-    requires { At table.now bytes.now p × (p.number + item_width * n ≤ length table.now) }
+pub fn take_items(t: &RecordTable, p: Places, n: u64, year: u32) -> Result<Places, Refusal>
+    requires { AtBy Any (lists t.now) p × (p.number + item_width * n ≤ length t.now.numbers.now) }
     ensures { (es : List ℕ) → result ≡ moved_of (joined flatten_item) (sum_by item_bytes) p
-        (answer (up_to year) (many n item_width take_item p.number (here (table_of table.now es bytes.now) p))) }
+        (answer (up_to year) (many n item_width take_item p.number (here (with_elements es t.now) p))) }
 {
-    let mut left = n;
-    let mut at = p;
-    while 0 < left {
-        match take_item(table, bytes, at, year) {
-            Moved::Fine(q) => {
-                at = q;
-            }
-            Moved::Refused(r) => {
-                return Moved::Refused(r);
-            }
-        }
-        left -= 1;
-    }
-    Moved::Fine(at)
+    take_all(n, p, |q| take_item(t, q, year))
 }

@@ -8,6 +8,8 @@
 pub mod elements;
 pub mod items;
 pub mod parts;
+pub mod pieces;
 pub mod places;
+pub mod record_table;
 pub mod rows;
 pub mod tables;

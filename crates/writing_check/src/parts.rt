@@ -1,25 +1,25 @@
 // The parts of a record: points and text length each, with elements and a text in the pools.
-ghost use Rattle.std.specs.Prelude.{List, ◌≡◌, ℕ, ◌+◌, ◌*◌, ◌≤◌, ◌<◌, ◌^◌, length, drop};
-ghost use Rattle.fields.specs.Steps.{Next};
-ghost use Rattle.fields.specs.declared.steps.Step.TheVariants.{Fine};
+ghost use Rattle.std.specs.Prelude.{List, ◌≡◌, ℕ, ◌+◌, ◌-◌, ◌*◌, ◌≤◌, ◌<◌, ◌^◌, length, drop};
+ghost use Rattle.fields.specs.Checks.{checked};
 ghost use Rattle.layout.specs.Fields.Subobject;
-ghost use Rattle.layout.specs.Fields.{limit};
 ghost use Rattle.layout.specs.Layout.Sizes.{sum_by, part_bytes, subobject_bytes};
 ghost use Rattle.layout.specs.Shared.Mark.{good_first};
 ghost use Rattle.layout.specs.Shared.Row.{reference_of, part_width};
 ghost use Rattle.layout.specs.Walk.{answer, up_to};
 ghost use Rattle.layout.specs.Writing.Parts.{first_rules, later_rules, take_part};
-ghost use Rattle.layout.specs.Writing.Tables.{table as table_of, joined, many, flatten_part};
+ghost use Rattle.layout.specs.Writing.Tables.{joined, many, flatten_part};
 ghost use Rattle.writing_check.specs.Parts.{elements_by, text_by, pools_by, bytes_by, headed, pool_walk};
-ghost use Rattle.writing_check.specs.Places.{here, moved_of, At};
+ghost use Rattle.writing_check.specs.Places.{lists, here, moved_of, At};
 
 use crate::elements;
-use crate::places::{Moved, Places, longer};
+use crate::pieces::take_all;
+use crate::places::{Places, longer};
+use crate::record_table::RecordTable;
+use fields::checks::demand;
 use fields::shapes;
 use fields::shapes::Shape;
-use fields::steps::{Step, demand};
-use layout::refusals::{COUNT, TABLE};
-use layout::{bounds, row, sheet, subobject};
+use layout::refusals::Reason;
+use layout::{Refusal, bounds, row, sheet, subobject};
 
 // Whether a first count goes with the record's mark and the word at +24.
 fn good_first(mark: u64, word: u64, points: u64) -> bool
@@ -32,87 +32,73 @@ fn good_first(mark: u64, word: u64, points: u64) -> bool
 }
 
 // The rules on the first part's points, beside the mark and the word at +24.
-fn first_rules(mark: u64, word: u64, points: u64, place: usize) -> Step
-    ensures { (y : ℕ) → Next Fine y place (first_rules mark word points) result }
+#[tactic(auto, unfolding(layout::specs::Writing::Parts::first_rules))]
+fn first_rules(mark: u64, word: u64, points: u64, place: usize) -> Result<(), Refusal>
+    ensures { (y : ℕ) → result ≡ checked y place (first_rules mark word points) }
 {
-    let good = good_first(mark, word, points);
-    let a = demand(
-        Step::Fine,
-        points < bounds::FOUR_BYTES,
-        TABLE,
-        place,
-        row::POINTS,
-    );
-    demand(a, good, COUNT, place, row::POINTS)
-}
-
-// The rules on a later part's points; marked says whether the record has the mark.
-fn later_rules(marked: bool, points: u64, place: usize) -> Step
-    ensures { (y : ℕ) → Next Fine y place (later_rules marked points) result }
-{
-    let a = demand(
-        Step::Fine,
-        points < bounds::FOUR_BYTES,
-        TABLE,
-        place,
-        row::POINTS,
-    );
     demand(
-        a,
-        marked | (points / subobject::UPPER_U64 == 0),
-        COUNT,
-        place,
-        row::POINTS,
+        points < bounds::FOUR_BYTES,
+        Reason::Table,
+        place + row::POINTS,
+    )?;
+    demand(
+        good_first(mark, word, points),
+        Reason::Count,
+        place + row::POINTS,
     )
 }
 
+// The rules on a later part's points; marked says whether the record has the mark.
+#[tactic(auto, unfolding(layout::specs::Writing::Parts::later_rules))]
+fn later_rules(marked: bool, points: u64, place: usize) -> Result<(), Refusal>
+    ensures { (y : ℕ) → result ≡ checked y place (later_rules marked points) }
+{
+    let narrow = points / subobject::UPPER_U64 == 0;
+    demand(
+        points < bounds::FOUR_BYTES,
+        Reason::Table,
+        place + row::POINTS,
+    )?;
+    demand(marked | narrow, Reason::Count, place + row::POINTS)
+}
+
 // The rules on the elements of a part: the pool has them all from `at` on, and none is too wide.
-fn element_rules(elements: &[u64], at: usize, s: Shape, points: usize, place: usize) -> Step
+fn element_rules(
+    elements: &[u64],
+    at: usize,
+    s: Shape,
+    points: usize,
+    place: usize,
+) -> Result<(), Refusal>
     requires { (at ≤ length elements.now) × (points < 2 ^ 32) }
-    ensures { (y : ℕ) → Next Fine y place (elements_by s points (drop at elements.now)) result }
+    ensures { (y : ℕ) → result ≡ checked y place (elements_by s points (length elements.now - at) (drop at elements.now)) }
 {
     let n = shapes::elements_of(points, s.three);
-    match demand(
-        Step::Fine,
-        n <= elements.len() - at,
-        TABLE,
-        place,
-        row::POINTS,
-    ) {
-        Step::Fine => {
-            let fits = elements::fit(elements, at, points, n, s);
-            demand(Step::Fine, fits, TABLE, place, row::POINTS)
-        }
-        Step::Refused(r) => Step::Refused(r),
-    }
+    demand(n <= elements.len() - at, Reason::Table, place + row::POINTS)?;
+    let fits = elements::fit(elements, at, points, n, s);
+    demand(fits, Reason::Table, place + row::POINTS)
 }
 
 // The rules on the text length, with so many bytes left in the pool.
-fn text_rules(s: Shape, size: u64, left: usize, place: usize) -> Step
+fn text_rules(s: Shape, size: u64, left: usize, place: usize) -> Result<(), Refusal>
     requires { place + part_width ≤ 2 ^ 64 }
-    ensures { (y : ℕ) → Next Fine y place (text_by s size left) result }
+    ensures { (y : ℕ) → result ≡ checked y place (text_by s size left) }
 {
-    let a = demand(
-        Step::Fine,
-        size < bounds::ONE_BYTE,
-        TABLE,
-        place,
-        row::TEXT_LENGTH,
-    );
-    let a = demand(a, s.text | (size == 0), TABLE, place, row::TEXT_LENGTH);
-    demand(a, size <= left as u64, TABLE, place, row::TEXT_LENGTH)
+    let at = place + row::TEXT_LENGTH;
+    demand(size < bounds::ONE_BYTE, Reason::Table, at)?;
+    demand(s.text | (size == 0), Reason::Table, at)?;
+    demand(size <= left as u64, Reason::Table, at)
 }
 
 // The rules on what a part takes from the two pools, at the places p.
-fn pool_rules(elements: &[u64], bytes: &[u8], p: Places, s: Shape, points: usize, size: u64) -> Step
-    requires { (p.element ≤ length elements.now) × (p.byte ≤ length bytes.now) × (p.number + part_width ≤ 2 ^ 64) × (points < 2 ^ 32) }
-    ensures { (y : ℕ)
-        → Next Fine y p.number (pools_by s points size (drop p.element elements.now) (drop p.byte bytes.now)) result }
+#[tactic(auto, using(fields::proofs::Laws::Chain::checked_both))]
+fn pool_rules(t: &RecordTable, p: Places, s: Shape, points: usize, size: u64) -> Result<(), Refusal>
+    requires { At (lists t.now) p × (p.number + part_width ≤ length t.now.numbers.now) × (points < 2 ^ 32) }
+    ensures { (y : ℕ) → result ≡ checked y p.number (pools_by s points size (length t.now.elements.now - p.element)
+        (drop p.element t.now.elements.now) (length t.now.bytes.now - p.byte)) }
 {
-    match element_rules(elements, p.element, s, points, p.number) {
-        Step::Fine => text_rules(s, size, bytes.len() - p.byte, p.number),
-        Step::Refused(r) => Step::Refused(r),
-    }
+    element_rules(t.elements, p.element, s, points, p.number)?;
+    text_rules(s, size, t.bytes.len() - p.byte, p.number)
 }
 
 // How many bytes a part has, beside a subobject's head.
@@ -129,114 +115,70 @@ fn part_length(s: Shape, points: usize, size: usize) -> usize
 
 // Takes what a part has in the two pools, once its points were let through; head is how many bytes stand before the points.
 fn take_pools(
-    elements: &[u64],
-    bytes: &[u8],
+    t: &RecordTable,
     p: Places,
     reference: u64,
     points: u64,
     size: u64,
     head: usize,
-) -> Moved
-    requires { (p.element ≤ length elements.now) × (p.byte ≤ length bytes.now) × (p.number + part_width < 2 ^ 64) × (p.length ≤ limit + 1)
-        × (points < 2 ^ 32) × (head ≤ Subobject.size) }
-    ensures { (y : ℕ) (ns : List ℕ)
-        → result ≡ moved_of flatten_part (headed head (reference_of reference)) p
-        (answer (up_to y) (pool_walk (reference_of reference) points size p.number (here (table_of ns elements.now bytes.now) p))) }
+) -> Result<Places, Refusal>
+    requires { At (lists t.now) p × (p.number + part_width ≤ length t.now.numbers.now) × (points < 2 ^ 32) × (head ≤ Subobject.size) }
+    ensures { (y : ℕ) → result ≡ moved_of flatten_part (headed head (reference_of reference)) p
+        (answer (up_to y) (pool_walk (reference_of reference) points size p.number (here (lists t.now) p))) }
 {
     let s = shapes::shape_in(reference);
     let count = points as usize;
-    match pool_rules(elements, bytes, p, s, count, size) {
-        Step::Fine => {
-            let n = shapes::elements_of(count, s.three);
-            let size = size as usize;
-            Moved::Fine(Places {
-                number: p.number + row::PART_WIDTH,
-                element: p.element + n,
-                byte: p.byte + size,
-                length: longer(p.length, head + part_length(s, count, size)),
-            })
-        }
-        Step::Refused(r) => Moved::Refused(r),
-    }
+    pool_rules(t, p, s, count, size)?;
+    let size = size as usize;
+    Ok(Places {
+        number: p.number + row::PART_WIDTH,
+        element: p.element + shapes::elements_of(count, s.three),
+        byte: p.byte + size,
+        length: longer(p.length, head + part_length(s, count, size)),
+    })
 }
 
 // Takes the first part of a record with that mark and that word at +24.
 pub fn take_first(
-    table: &[u64],
-    elements: &[u64],
-    bytes: &[u8],
+    t: &RecordTable,
     p: Places,
     reference: u64,
     mark: u64,
     word: u64,
-) -> Moved
-    requires { At table.now bytes.now p × (p.element ≤ length elements.now) × (p.number + part_width ≤ length table.now) }
-    ensures { (y : ℕ)
-        → result ≡ moved_of flatten_part (part_bytes (reference_of reference)) p
-        (answer (up_to y) (take_part (reference_of reference) (first_rules mark word) p.number
-        (here (table_of table.now elements.now bytes.now) p))) }
+) -> Result<Places, Refusal>
+    requires { At (lists t.now) p × (p.number + part_width ≤ length t.now.numbers.now) }
+    ensures { (y : ℕ) → result ≡ moved_of flatten_part (part_bytes (reference_of reference)) p
+        (answer (up_to y) (take_part (reference_of reference) (first_rules mark word) p.number (here (lists t.now) p))) }
 {
-    let number = p.number;
-    let points = table[number];
-    let size = table[number + row::TEXT_LENGTH];
-    match first_rules(mark, word, points, number) {
-        Step::Fine => take_pools(elements, bytes, p, reference, points, size, 0),
-        Step::Refused(r) => Moved::Refused(r),
-    }
+    let points = t.numbers[p.number];
+    let size = t.numbers[p.number + row::TEXT_LENGTH];
+    first_rules(mark, word, points, p.number)?;
+    take_pools(t, p, reference, points, size, 0)
 }
 
 // Takes a later part, which has N1 and N2 before its points.
-fn take_later(
-    table: &[u64],
-    elements: &[u64],
-    bytes: &[u8],
-    p: Places,
-    reference: u64,
-    marked: bool,
-) -> Moved
-    requires { At table.now bytes.now p × (p.element ≤ length elements.now) × (p.number + part_width ≤ length table.now) }
-    ensures { (y : ℕ)
-        → result ≡ moved_of flatten_part (subobject_bytes (reference_of reference)) p
-        (answer (up_to y) (take_part (reference_of reference) (later_rules marked) p.number
-        (here (table_of table.now elements.now bytes.now) p))) }
+fn take_later(t: &RecordTable, p: Places, reference: u64, marked: bool) -> Result<Places, Refusal>
+    requires { At (lists t.now) p × (p.number + part_width ≤ length t.now.numbers.now) }
+    ensures { (y : ℕ) → result ≡ moved_of flatten_part (subobject_bytes (reference_of reference)) p
+        (answer (up_to y) (take_part (reference_of reference) (later_rules marked) p.number (here (lists t.now) p))) }
 {
-    let number = p.number;
-    let points = table[number];
-    let size = table[number + row::TEXT_LENGTH];
-    match later_rules(marked, points, number) {
-        Step::Fine => take_pools(elements, bytes, p, reference, points, size, subobject::SIZE),
-        Step::Refused(r) => Moved::Refused(r),
-    }
+    let points = t.numbers[p.number];
+    let size = t.numbers[p.number + row::TEXT_LENGTH];
+    later_rules(marked, points, p.number)?;
+    take_pools(t, p, reference, points, size, subobject::SIZE)
 }
 
 // Takes n later parts, one after another.
 pub fn take_laters(
-    table: &[u64],
-    elements: &[u64],
-    bytes: &[u8],
+    t: &RecordTable,
     p: Places,
     n: u64,
     reference: u64,
     marked: bool,
-) -> Moved
-    requires { At table.now bytes.now p × (p.element ≤ length elements.now) × (p.number + part_width * n ≤ length table.now) }
-    ensures { (y : ℕ)
-        → result ≡ moved_of (joined flatten_part) (sum_by (subobject_bytes (reference_of reference))) p
-        (answer (up_to y) (many n part_width (take_part (reference_of reference) (later_rules marked)) p.number
-        (here (table_of table.now elements.now bytes.now) p))) }
+) -> Result<Places, Refusal>
+    requires { At (lists t.now) p × (p.number + part_width * n ≤ length t.now.numbers.now) }
+    ensures { (y : ℕ) → result ≡ moved_of (joined flatten_part) (sum_by (subobject_bytes (reference_of reference))) p
+        (answer (up_to y) (many n part_width (take_part (reference_of reference) (later_rules marked)) p.number (here (lists t.now) p))) }
 {
-    let mut left = n;
-    let mut at = p;
-    while 0 < left {
-        match take_later(table, elements, bytes, at, reference, marked) {
-            Moved::Fine(q) => {
-                at = q;
-            }
-            Moved::Refused(r) => {
-                return Moved::Refused(r);
-            }
-        }
-        left -= 1;
-    }
-    Moved::Fine(at)
+    take_all(n, p, |q| take_later(t, q, reference, marked))
 }

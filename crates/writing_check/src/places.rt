@@ -1,24 +1,18 @@
-// Where pass 1 stands in the three slices, and the answer of each piece.
+// Where pass 1 stands in the three slices.
 ghost use Rattle.std.specs.Prelude.{◌≡◌, ◌+◌, ◌≤◌, ◌<◌, ◌^◌};
 ghost use Rattle.layout.specs.Fields.{limit};
 ghost use Rattle.writing_check.specs.Places.{capped};
 
-use layout::{Refusal, sheet};
+use layout::sheet;
 
 // The index of the next number, the places in the two pools, and how many bytes the records have so far: at most one more than the
-// limit, so that no sum of lengths wraps.
+// limit, so that no sum of lengths wraps. It is no `Cursor`, which has no length that stops.
 #[derive(Clone, Copy)]
 pub struct Places {
     pub number: usize,
     pub element: usize,
     pub byte: usize,
     pub length: usize,
-}
-
-#[derive(Clone, Copy)]
-pub enum Moved {
-    Fine(Places),
-    Refused(Refusal),
 }
 
 // A length with so many bytes added, and not counted past the limit and one.

@@ -1,14 +1,16 @@
 // The record table, row by row to its end.
-ghost use Rattle.std.specs.Prelude.{◌≡◌, length};
+ghost use Rattle.std.specs.Prelude.{◌≡◌};
 ghost use Rattle.layout.specs.Walk.{answer, up_to};
 ghost use Rattle.layout.specs.Writing.Rows.{rows_walk};
-ghost use Rattle.layout.specs.Writing.Tables.{table as table_of};
+ghost use Rattle.writing_check.specs.Places.{lists};
 ghost use Rattle.writing_check.specs.Tables.{rows_of};
 
-use crate::places::{Moved, Places};
+use crate::places::Places;
+use crate::record_table::RecordTable;
 use crate::rows;
+use fields::checks::refused;
 use layout::Refusal;
-use layout::refusals::TABLE;
+use layout::refusals::Reason;
 
 // How many bytes the records have together, at most one more than the limit; and how many records there are.
 #[derive(Clone, Copy)]
@@ -17,15 +19,9 @@ pub struct Totals {
     pub records: usize,
 }
 
-#[derive(Clone, Copy)]
-pub enum Rows {
-    Fine(Totals),
-    Refused(Refusal),
-}
-
 // Pass 1: the totals of a table and its two pools, or the refusal.
-pub fn check(table: &[u64], elements: &[u64], bytes: &[u8], year: u32) -> Rows
-    ensures { result ≡ rows_of (answer (up_to year) (rows_walk (table_of table.now elements.now bytes.now))) }
+pub fn check(t: &RecordTable, year: u32) -> Result<Totals, Refusal>
+    ensures { result ≡ rows_of (answer (up_to year) (rows_walk (lists t.now))) }
 {
     let mut p = Places {
         number: 0,
@@ -34,26 +30,16 @@ pub fn check(table: &[u64], elements: &[u64], bytes: &[u8], year: u32) -> Rows
         length: 0,
     };
     let mut records: usize = 0;
-    while p.number < table.len() {
-        match rows::take_row(table, elements, bytes, p, year) {
-            Moved::Fine(q) => {
-                p = q;
-            }
-            Moved::Refused(r) => {
-                return Rows::Refused(r);
-            }
-        }
+    // A row says itself how many numbers it takes, so that no range and no iterator counts the turns.
+    while p.number < t.numbers.len() {
+        p = rows::take_row(t, p, year)?;
         records += 1;
     }
-    if (elements.len() <= p.element) & (bytes.len() <= p.byte) {
-        return Rows::Fine(Totals {
+    if (t.elements.len() <= p.element) & (t.bytes.len() <= p.byte) {
+        return Ok(Totals {
             length: p.length,
             records,
         });
     }
-    Rows::Refused(Refusal {
-        number: TABLE,
-        place: p.number,
-        year: 0,
-    })
+    refused(Reason::Table, p.number)
 }

@@ -1,18 +1,11 @@
 -- What an emitter is asked and does. E flattens a piece, F says what an accepted one keeps, B has its bytes in the sheet.
-use Rattle.std.specs.Prelude.{List, ◌++◌, ◌≡◌, ℕ, ◌+◌, ◌≤◌, length}
+use Rattle.std.specs.Prelude.{List, ◌++◌, ◌≡◌, ℕ, length}
 use Rattle.std.proofs.lemmas.List.Edits.{sets}
-use Rattle.writing_emit.specs.Cursors.{ahead, moved}
-use Rattle.writing_emit.specs.declared.cursors.Cursor.{Cursor}
+use Rattle.writing_emit.specs.Cursors.{ahead, moved, Room}
+use Rattle.fields.specs.declared.cursors.Cursor.{Cursor}
 use Rattle.layout.specs.Bytes.{All}
 use Rattle.layout.specs.Sheet.{Table}
 use Rattle.layout.specs.Writing.Tables.{join}
-
--- the three lists of e, from c on, are within those of t, and so many bytes more within a length
-pub record Room (c : Cursor) (e : Table) (k : ℕ) (t : Table) (ol : ℕ) : Type 0 where
-  pub number : c.number + length e.numbers ≤ length t.numbers
-  pub element : c.element + length e.elements ≤ length t.elements
-  pub byte : c.byte + length e.bytes ≤ length t.bytes
-  pub out : c.out + k ≤ ol
 
 -- a piece stands in t at the cursor, and there is room for its bytes in a slice of that length
 pub record Piece {A : Type 0} (E : A → Table) (F : A → Type 0) (B : A → List ℕ) (c : Cursor) (t : Table) (ol : ℕ) : Type 0 where
@@ -24,7 +17,7 @@ pub record Piece {A : Type 0} (E : A → Table) (F : A → Type 0) (B : A → Li
 
 -- Whatever piece stands there: the cursor r is past it, its bytes are written at the cursor's place, and nothing else is changed.
 pub record Emitted {A : Type 0} (E : A → Table) (F : A → Type 0) (B : A → List ℕ) (c : Cursor) (t : Table) (o₀ o₁ : List ℕ) (r : Cursor) : Type 0 where
-  pub all : (a : A) (rest : Table) → F a → join (E a) rest ≡ ahead c t → (r ≡ moved c (E a) (B a)) × (o₁ ≡ sets o₀ c.out (B a))
+  pub all : (a : A) (rest : Table) → F a → join (E a) rest ≡ ahead c t → (r ≡ moved c (E a) (B a)) × (o₁ ≡ sets o₀ c.place (B a))
 
 -- n pieces, one after another
 abbrev pub Counted : {A : Type 0} → ℕ → (A → Type 0) → List A → Type 0

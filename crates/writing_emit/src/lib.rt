@@ -6,9 +6,9 @@
 // changed.
 #![tactic(auto)]
 
-pub mod cursors;
 pub mod headers;
 pub mod items;
+pub mod lists;
 pub mod parts;
 pub mod records;
 pub mod tables;

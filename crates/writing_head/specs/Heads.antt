@@ -1,5 +1,6 @@
 -- The rules on what the writer is given for a head, one list; and its bytes, as the code writes them.
-use Rattle.std.specs.Prelude.{List, [], ◌∷◌, ◌++◌, ℕ, replicate}
+use Rattle.std.specs.Prelude.{List, [], ◌∷◌, ◌++◌, ◌≡◌, ◌<◌, ℕ, length, replicate}
+use Rattle.layout.specs.Answers.Lent.{head_of}
 use Rattle.layout.specs.Bytes.{stored}
 use Rattle.layout.specs.Fields.Descriptor
 use Rattle.layout.specs.Fields.Passport
@@ -10,6 +11,20 @@ use Rattle.layout.specs.Shared.Texts.{padded, text_fits}
 use Rattle.layout.specs.Sheet.{Head}
 use Rattle.layout.specs.Walk.{Check}
 use Rattle.layout.specs.Writing.Sheets.{title_rules}
+use Rattle.writing_head.specs.declared.texts.HeadTexts.{HeadTexts}
+
+-- what the writer is given for a head, with its scale
+abbrev pub head_in : ℕ → HeadTexts → Head
+head_in scale t = head_of t.date.now t.designation.now scale t.title.now t.rest.now t.designation2.now t.carried.now
+
+-- each text is shorter than its field, and the rest and the carried bytes are whole
+pub record Fits (t : HeadTexts) : Type 0 where
+  pub date : length t.date.now < (Passport.date).width
+  pub designation : length t.designation.now < (Passport.designation).width
+  pub title : length t.title.now < (Passport.title).width
+  pub rest : length t.rest.now ≡ (Passport.rest).width
+  pub designation2 : length t.designation2.now < (Descriptor.designation).width
+  pub carried : length t.carried.now ≡ (Descriptor.carried).width
 
 abbrev pub head_rules : Head → List Check
 head_rules h = title_rules h ++ (rest_checks h.rest ++ ((text_fits Descriptor.designation h.designation2 ∷ []) ++ carried_checks h.carried))

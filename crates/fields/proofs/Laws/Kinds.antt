@@ -1,10 +1,8 @@
 -- The kind of an item for code that asks only whether its value is long: what stands before the value, and which length it has.
-use mathlib.Core.Bool.{Bool, true, false, ◌||◌}
+use mathlib.Core.Bool.{true, false}
 use mathlib.Core.List.{List}
 use mathlib.Core.Path.{◌≡◌, refl, sym, ap, ap₂, ◌∙◌}
-use Prim.Native.Nat.{ℕ, ◌+◌, ◌<◌}
-use borrow.Author.Tests.{eqb-true}
-use lib.Dec.{eqb}
+use Prim.Native.Nat.{ℕ, ◌+◌}
 use lib.ListN.{drop}
 use lib.Seq.{drop-drop}
 use native.Mathlib.Omega.{arith}
@@ -31,16 +29,6 @@ short-is long e = let z : ◌≡◌ {A = ℕ} 0 1 = cc in absurd (omega arith)
 short-is (integer m) e = (refl, λ scale n. refl)
 short-is double e = (refl, λ scale n. refl)
 short-is unknown e = (refl, λ scale n. refl)
-
--- the type of an integer is its length, and fits a byte
-pub integer-small : (t : ℕ) → (eqb t 1 || eqb t 2 || eqb t 4) ≡ true → t < 256
-integer-small t e = go (eqb t 1) (eqb t 2) (eqb t 4) refl refl refl e
-  where
-    go : (a b c : Bool) → eqb t 1 ≡ a → eqb t 2 ≡ b → eqb t 4 ≡ c → (a || b || c) ≡ true → t < 256
-    go true b c f g h e = omega (arith, eqb-true t 1 f)
-    go false true c f g h e = omega (arith, eqb-true t 2 g)
-    go false false true f g h e = omega (arith, eqb-true t 4 h)
-    go false false false f g h e = absurd (never e)
 
 -- the item at a place of a sheet, by its type and scale as the code reads them
 module _ (xs : List ℕ) (at : ℕ) where

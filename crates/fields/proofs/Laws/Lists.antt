@@ -1,14 +1,20 @@
 -- Lists by a place in them: what stands at the place, and what comes after it. For code that reads `s[i]`.
-use mathlib.Core.Bool.{Bool, true, false}
+use mathlib.Core.Bool.{Bool, true, false, ◌&&◌}
 use mathlib.Core.List.{List, [], ◌∷◌}
 use mathlib.Core.Path.{◌≡◌, refl, sym, ap, ◌∙◌}
 use Prim.Native.Nat.{ℕ, zero, suc, ◌+◌, ◌*◌, ◌-◌, ◌^◌, ◌<◌, ◌≤◌}
-use borrow.Author.Tests.{eq-eqb, ne_eqb, lt-ltb, le-ltb}
+use borrow.Author.Tests.{ne_eqb}
+use lib.Dec.{eqb}
 use lib.ListN.{length, get_or, take, drop, drop_of_length-le, length-drop, take-append-drop}
 use lib.Seq.{drop-drop, drop-nil, drop-cons, take_all, length-take-le}
-use native.Mathlib.Nat.{mul-zero, zero-add, suc-add, pow-succ', pow-zero, mul-add, mul_assoc, add_assoc, one-mul}
+use native.Mathlib.Nat.{mul-zero, zero-mul, zero-add, suc-add, pow-succ', pow-zero, mul-add, mul_assoc, add_assoc, one-mul}
 use native.Mathlib.Numerals.{add-one}
 use native.Mathlib.Omega.{arith}
+use Rattle.std.specs.Bool.{MatchBool}
+use Rattle.std.specs.List.{AllWithin, HoldsAt}
+use Rattle.std.specs.Prelude.{Option, None, Some}
+use Rattle.std.specs.Option.{MatchOption, unwrap_or}
+use Rattle.std.specs.Simd.{first_chunks}
 use Rattle.laws.proofs.Base.Numbers.{number_nil, total_append}
 use Rattle.layout.specs.Bytes.{number, total, zeros}
 use Rattle.layout.specs.Shared.Texts.{text_of}
@@ -31,13 +37,9 @@ number-join m n s p = number-add m n (drop p s) ∙ simp drop-drop
 pub field_at : (w k p : ℕ) (xs : List ℕ) (v : ℕ) → v ≡ number w (drop (p + k) xs) → v ≡ number w (drop k (drop p xs))
 field_at w k p xs v e = rw drop-drop e
 
--- one more byte of a sum, and its end
+-- one more byte of a sum
 pub total_step : (s : List ℕ) (i : ℕ) → i < length s → total (drop i s) ≡ get_or s i 0 + total (drop (i + 1) s)
 total_step s i h = simp (add-one, drop-cons s i 0 h)
-
--- the same, i bytes after a place
-pub total-next : (s : List ℕ) (at i : ℕ) → at + i < length s → total (drop (at + i) s) ≡ get_or s (at + i) 0 + total (drop (at + (i + 1)) s)
-total-next s at i h = rw (← add_assoc at i 1) (total_step s (at + i) h)
 
 -- a sum in two pieces
 pub total_cut : (n : ℕ) (s : List ℕ) → total (take n s) + total (drop n s) ≡ total s
@@ -46,28 +48,51 @@ total_cut n s = sym (total_append (take n s) (drop n s)) ∙ ap total (take-appe
 pub total_on : (s : List ℕ) (at n : ℕ) → total (take n (drop at s)) + total (drop (at + n) s) ≡ total (drop at s)
 total_on s at n = rw (← (drop-drop n at s)) (total_cut n (drop at s))
 
+-- nothing is left of a sum past the end
 pub total-end : (s : List ℕ) (i : ℕ) → length s ≤ i → total (drop i s) ≡ 0
 total-end s i h = simp (drop_of_length-le s h)
 
--- a text from a place on: at a zero, at another byte, at the end
-pub text_zero : (s : List ℕ) (i : ℕ) → i < length s → get_or s i 0 ≡ 0 → length (text_of (drop i s)) ≡ 0
-text_zero s i h e = simp (drop-cons s i 0 h, eq-eqb _ _ e)
+-- the text before the first zero, which is at i, or at the end
+text-to : (s : List ℕ) (i : ℕ) → i ≤ length s → AllWithin (λ x. x ≡ 0 → ⊥) s 0 i → (i < length s → get_or s i 0 ≡ 0) → i ≡ length (text_of s)
+text-to [] i h all e = omega arith
+text-to (x ∷ s) zero h all e = let z : x ≡ 0 = e (omega arith) in rw z refl
+text-to (x ∷ s) (suc i) h all e =
+    let z : eqb x 0 ≡ false = ne_eqb x 0 (all 0 0 (omega arith) (omega arith)) in
+    rw z (ap suc (text-to s i (omega arith) (λ k d l lt. all (suc k) d (omega arith) (omega arith)) (λ l. e (omega arith))))
 
-pub text-more : (s : List ℕ) (i : ℕ) → i < length s → (get_or s i 0 ≡ 0 → ⊥) → length (text_of (drop i s)) ≡ length (text_of (drop (i + 1) s)) + 1
-text-more s i h e = simp (add-one, drop-cons s i 0 h, ne_eqb _ _ e)
+-- what `position` says of the first zero
+pub text-found : (s : List ℕ) (r : Option ℕ)
+    → MatchOption r (AllWithin (λ x. x ≡ 0 → ⊥) s 0 (length s)) (λ i. (i < length s) × HoldsAt (λ x. x ≡ 0) s i × AllWithin (λ x. x ≡ 0 → ⊥) s 0 i)
+    → unwrap_or r (length s) ≡ length (text_of s)
+text-found s None all = text-to s (length s) (omega arith) all (λ l. absurd (omega arith))
+text-found s (Some i) f = text-to s i (omega (arith, f.0)) f.2 (λ l. f.1 0)
 
-pub text-end : (s : List ℕ) (i : ℕ) → length s ≤ i → length (text_of (drop i s)) ≡ 0
-text-end s i h = simp (drop_of_length-le s h)
+zeros-all : (s : List ℕ) → AllWithin (λ x. x ≡ 0) s 0 (length s) → true ≡ zeros s
+zeros-all [] all = refl
+zeros-all (x ∷ s) all =
+    let z : x ≡ 0 = all 0 0 (omega arith) (omega arith) in rw z (zeros-all s (λ k d l lt. all (suc k) d (omega arith) (omega arith)))
 
--- zeros from a place on
-pub zeros_other : (s : List ℕ) (i : ℕ) → i < length s → (get_or s i 0 ≡ 0 → ⊥) → zeros (drop i s) ≡ false
-zeros_other s i h e = simp (drop-cons s i 0 h, ne_eqb _ _ e)
+zeros-not : (s : List ℕ) (k : ℕ) → k < length s → (get_or s k 0 ≡ 0 → ⊥) → false ≡ zeros s
+zeros-not [] k l n = absurd (omega arith)
+zeros-not (x ∷ s) zero l n = rw (ne_eqb x 0 n) refl
+zeros-not (x ∷ s) (suc k) l n = rw (← zeros-not s k (omega arith) n) (go (eqb x 0))
+  where
+    go : (b : Bool) → false ≡ b && false
+    go true = refl
+    go false = refl
 
-pub zeros-more : (s : List ℕ) (i : ℕ) → i < length s → get_or s i 0 ≡ 0 → zeros (drop i s) ≡ zeros (drop (i + 1) s)
-zeros-more s i h e = simp (add-one, drop-cons s i 0 h, eq-eqb _ _ e)
+-- what `all` says of zeros
+pub zeros-told : (s : List ℕ) (r : Bool) → MatchBool r (AllWithin (λ x. x ≡ 0) s 0 (length s)) ((k : ℕ) × (k < length s) × HoldsAt (λ x. x ≡ 0 → ⊥) s k)
+    → r ≡ zeros s
+zeros-told s true all = zeros-all s all
+zeros-told s false f = zeros-not s f.0 f.1 (f.2 0)
 
-pub zeros-end : (s : List ℕ) (i : ℕ) → length s ≤ i → zeros (drop i s) ≡ true
-zeros-end s i h = simp (drop_of_length-le s h)
+-- a chunk of n bytes
+pub chunk-there : (n k : ℕ) (s : List ℕ) (i : ℕ) (d : List ℕ) → i < k → get_or (first_chunks n k s) i d ≡ take n (drop (i * n) s)
+chunk-there n zero s i d h = absurd (omega arith)
+chunk-there n (suc k) s zero d h = rw zero-mul refl
+chunk-there n (suc k) s (suc i) d h =
+    let j : n + i * n ≡ suc i * n = omega arith in chunk-there n k (drop n s) i d (omega arith) ∙ ap (take n) (drop-drop (i * n) n s ∙ ap (λ m. drop m s) j)
 
 -- the bytes from p on, as the code's `&s[p..]` has them, and n bytes from p on, as `&s[p..p + n]` has them
 pub rest_is : (s : List ℕ) (p : ℕ) → take (length s - p) (drop p s) ≡ drop p s

@@ -1,9 +1,8 @@
--- The bytes of a number, written by parts: once over the widths of the parts.
+-- The bytes of a number: those of its low part, and those above it.
 use mathlib.Core.List.{List, ◌∷◌, ◌++◌}
 use mathlib.Core.Path.{◌≡◌, refl, ap, ◌∙◌}
 use Prim.Native.Nat.{ℕ, zero, suc, ◌+◌, ◌*◌, ◌/◌, ◌%◌, ◌^◌, ◌<◌}
 use lib.Arith.{mod-mul}
-use lib.ListN.{set}
 use lib.Seq.{sets}
 use native.Mathlib.Nat.{div-div-eq-div-mul, pow-succ', mul_comm, pow-zero, zero-add, suc-add}
 use native.Mathlib.Omega.{arith}
@@ -32,13 +31,3 @@ bytes-join (suc m) n v = rw suc-add (ap (λ l. v % 256 ∷ l) (bytes-join m n (v
 -- a number of m + n bytes as its low m bytes and the n above them
 pub put_parts : (m n : ℕ) (out : List ℕ) (w v : ℕ) → sets (sets out w (bytes m (v % 256 ^ m))) (w + m) (bytes n (v / 256 ^ m)) ≡ sets out w (bytes (m + n) v)
 put_parts m n out w v = rw (bytes_low m v, bytes-join m n v, sets_append, length-bytes) refl
-
--- the stores of the code, one byte each
-pub put_one : (out : List ℕ) (w v : ℕ) → v < 256 → set out w v ≡ sets out w (bytes 1 v)
-put_one out w v h = let e : v % 256 ≡ v = omega arith in rw e refl
-
-pub put_two : (out : List ℕ) (w v : ℕ) → v < 65536 → set (set out w (v % 256)) (w + 1) (v / 256) ≡ sets out w (bytes 2 v)
-put_two out w v h =
-    let next : suc w ≡ w + 1 = omega arith in
-    let e : v / 256 % 256 ≡ v / 256 = omega arith in
-    rw (next, e) refl

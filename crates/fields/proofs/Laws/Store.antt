@@ -3,11 +3,11 @@
 use mathlib.Core.List.{List, [], ◌∷◌, ◌++◌, append_assoc, append-nil}
 use mathlib.Core.Path.{◌≡◌, refl, sym, ap, ◌∙◌}
 use Prim.Native.Nat.{ℕ, suc, ◌+◌, ◌-◌, ◌*◌, ◌%◌, ◌^◌, ◌≤◌, ◌<◌}
-use lib.ListN.{length, get_or, take, drop, set, replicate, length-replicate, get_or-replicate, length-append, length-drop}
+use lib.ListN.{length, get_or, take, drop, replicate, length-append, length-drop}
 use lib.Seq.{sets, take_all, drop-drop, drop-cons, length-sets}
-use native.Mathlib.Nat.{mul-suc, mul-zero, add-zero, add_assoc, zero-add, one-mul}
+use native.Mathlib.Nat.{mul-suc, add_assoc, one-mul}
 use native.Mathlib.Omega.{arith}
-use Rattle.fields.proofs.Laws.Put.{sets_append, repeat_cons, repeat-none, Copying, copy_turn, copy_done}
+use Rattle.fields.proofs.Laws.Put.{sets_append, repeat_cons}
 use Rattle.laws.proofs.Base.Numbers.{length-bytes}
 use Rattle.layout.specs.Bytes.{bytes, field, stored_all, repeat, total}
 use Rattle.layout.specs.Shared.Texts.{padded}
@@ -34,11 +34,6 @@ module _ (ws xs : List ℕ) (at n w : ℕ) (out₀ : List ℕ) where
     pub le : i ≤ n
     pub eq : sets out₀ w (stored_all (repeat n ws) (drop at xs)) ≡ sets out (w + total ws * i) (stored_all (repeat (n - i) ws) (drop (at + length ws * i) xs))
 
-  pub store_start : Storing 0 out₀
-  store_start =
-      let e : n - 0 ≡ n = omega arith in
-      record { len = refl; le = omega arith; eq = rw (mul-zero, mul-zero, add-zero, add-zero, e) refl }
-
   pub store_turn : (i : ℕ) (out out' : List ℕ) → Storing i out → i < n → at + length ws * i + length ws ≤ length xs
       → out' ≡ sets out (w + total ws * i) (stored_all ws (drop (at + length ws * i) xs)) → Storing (i + 1) out'
   store_turn i out out' g h fits e =
@@ -56,9 +51,6 @@ module _ (ws xs : List ℕ) (at n w : ℕ) (out₀ : List ℕ) where
         eq = g.eq ∙ rw (split, sets_append, l, ← e, r) refl;
       }
 
-  pub store_done : (i : ℕ) (out : List ℕ) → Storing i out → n ≤ i → out ≡ sets out₀ w (stored_all (repeat n ws) (drop at xs))
-  store_done i out g h = sym (g.eq ∙ rw (repeat-none (n - i) ws (omega arith)) refl)
-
 -- elements of one width: a turn writes one, as a number v that has the same low bytes
 module _ (k : ℕ) (xs : List ℕ) (at n w : ℕ) (out₀ : List ℕ) where
   pub store_one : (i : ℕ) (out out' : List ℕ) (v : ℕ) → Storing (k ∷ []) xs at n w out₀ i out → i < n → at + n ≤ length xs
@@ -68,11 +60,11 @@ module _ (k : ℕ) (xs : List ℕ) (at n w : ℕ) (out₀ : List ℕ) where
       let one : total (k ∷ []) ≡ k = omega arith in
       store_turn (k ∷ []) xs at n w out₀ i out out' g h (omega arith) (rw (one, one-mul, there, append-nil, ← low) e)
 
--- three elements, one after another, each its low bytes
-pub store_three : (a b k : ℕ) (xs : List ℕ) (o p : ℕ) (out₀ out₁ out₂ out₃ : List ℕ) → p + 3 ≤ length xs → out₁ ≡ sets out₀ o (bytes a (get_or xs p 0 % 256 ^ a))
-    → out₂ ≡ sets out₁ (o + a) (bytes b (get_or xs (p + 1) 0 % 256 ^ b)) → out₃ ≡ sets out₂ (o + (a + b)) (bytes k (get_or xs (p + 2) 0 % 256 ^ k))
-    → out₃ ≡ sets out₀ o (stored_all (a ∷ b ∷ k ∷ []) (drop p xs))
-store_three a b k xs o p out₀ out₁ out₂ out₃ h e₁ e₂ e₃ =
+-- three elements, one after another, each as a number that has the same low bytes
+pub store_three : (a b k : ℕ) (xs : List ℕ) (o p x y z : ℕ) (out₀ out₁ out₂ out₃ : List ℕ) → p + 3 ≤ length xs → x ≡ get_or xs p 0 % 256 ^ a
+    → y ≡ get_or xs (p + 1) 0 % 256 ^ b → z ≡ get_or xs (p + 2) 0 % 256 ^ k → out₁ ≡ sets out₀ o (bytes a x) → out₂ ≡ sets out₁ (o + a) (bytes b y)
+    → out₃ ≡ sets out₂ (o + (a + b)) (bytes k z) → out₃ ≡ sets out₀ o (stored_all (a ∷ b ∷ k ∷ []) (drop p xs))
+store_three a b k xs o p x y z out₀ out₁ out₂ out₃ h ex ey ez e₁ e₂ e₃ =
     let p1 : p + 1 ≡ suc p = omega arith in
     let p2 : p + 2 ≡ suc (suc p) = omega arith in
     let there : drop p xs ≡ get_or xs p 0 ∷ get_or xs (p + 1) 0 ∷ get_or xs (p + 2) 0 ∷ drop (suc (suc (suc p))) xs =
@@ -87,23 +79,14 @@ store_three a b k xs o p out₀ out₁ out₂ out₃ h e₁ e₂ e₃ =
       e₃,
       e₂,
       e₁,
+      ex,
+      ey,
+      ez,
       bytes_low a (get_or xs p 0),
       bytes_low b (get_or xs (p + 1) 0),
       bytes_low k (get_or xs (p + 2) 0),
       ← add_assoc,
     ) refl
-
--- zeros are copied from a list of them
-module _ (n w : ℕ) (out₀ : List ℕ) where
-  abbrev pub Clearing : ℕ → List ℕ → Type 0
-  Clearing i out = Copying (replicate n 0) 0 n w out₀ i out
-
-  pub clear_turn : (i : ℕ) (out : List ℕ) → Clearing i out → i < n → Clearing (i + 1) (set out (w + i) 0)
-  clear_turn i out g h =
-      copy_turn (replicate n 0) 0 n w out₀ i out g h (rw length-replicate (omega arith)) 0 (rw (zero-add, get_or-replicate {A = ℕ} n i 0 0 h) refl)
-
-  pub clear_done : (i : ℕ) (out : List ℕ) → Clearing i out → n ≤ i → out ≡ sets out₀ w (replicate n 0)
-  clear_done i out g h = copy_done (replicate n 0) 0 n w out₀ i out g h ∙ ap (sets out₀ w) (take_all n (replicate n 0) (rw length-replicate (omega arith)))
 
 -- a text, and then zeros, of which the first ends the text
 pub text-zeros : (out text : List ℕ) (w width : ℕ) → length text < width

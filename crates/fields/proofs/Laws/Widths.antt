@@ -5,14 +5,14 @@ use mathlib.Core.List.{[], ◌∷◌}
 use mathlib.Core.Path.{◌≡◌, refl, sym, ap, subst, ◌∙◌}
 use Prim.Native.Nat.{ℕ, zero, suc, ◌*◌, ◌^◌, ◌≤◌, ◌<◌}
 use lib.ListN.{length}
-use native.Mathlib.Nat.{zero-mul, mul_comm, mul-one, mul-le-mul_left}
+use native.Mathlib.Nat.{zero-mul, mul-le-mul_left}
 use native.Mathlib.Omega.{arith}
-use Rattle.fields.specs.Shapes.{dimensions, loop_by}
+use Rattle.fields.specs.Shapes.{dimensions, loop_by, loop_of}
 use Rattle.fields.specs.declared.shapes.Loop.{Loop}
 use Rattle.fields.specs.declared.shapes.Loop.TheVariants as By
-use Rattle.laws.proofs.Base.Numbers.{length-repeat, total-repeat}
-use Rattle.layout.specs.Bytes.{repeat, total}
-use Rattle.layout.specs.Shared.Widths.{element_widths, point_bytes, point_is_elements}
+use Rattle.fields.specs.declared.shapes.Shape.{Shape}
+use Rattle.layout.specs.Bytes.{repeat}
+use Rattle.layout.specs.Shared.Widths.{element_widths}
 
 -- how many elements a point has
 pub widths-count : (size float three : Bool) → length (element_widths size float three) ≡ dimensions three
@@ -40,8 +40,9 @@ served false true three l e = subst (λ k. Served k false true three) e (record 
 served false false true l e = subst (λ k. Served k false false true) e (refl, refl, refl)
 served false false false l e = subst (λ k. Served k false false false) e (record { widths = refl })
 
-pub wide224 : (size float three : Bool) → size ≡ false → float ≡ false → three ≡ true → element_widths size float three ≡ 2 ∷ 2 ∷ 4 ∷ []
-wide224 size float three a b t = rw (a, b, t) refl
+-- the loop that was chosen for a shape serves it
+pub serves : (s : Shape) {l : Loop} (m : Loop) → l ≡ loop_of s → l ≡ m → Served m s.size s.float s.three
+serves s m e f = served s.size s.float s.three m (sym e ∙ f)
 
 repeat-one : (p : ℕ) (three : Bool) (count n : ℕ) → n ≡ count * dimensions three → repeat n (p ∷ []) ≡ repeat count (p ∷ p ∷ cond three (p ∷ []) [])
 repeat-one p three zero n e = let z : n ≡ 0 = e ∙ zero-mul (dimensions three) in rw z refl
@@ -55,13 +56,3 @@ repeat-one p false (suc count) n e =
 module _ {p : ℕ} {size float three : Bool} (one : OneWidth p size float three) (count n : ℕ) (e : n ≡ count * dimensions three) where
   pub widths-repeat : repeat n (p ∷ []) ≡ repeat count (element_widths size float three)
   widths-repeat = repeat-one p three count n e ∙ ap (repeat count) (sym one.widths)
-
-  -- so many bytes and so many elements, counted either way
-  pub bytes_count : p * n ≡ count * point_bytes size float three
-  bytes_count =
-      let p1 : total (p ∷ []) ≡ p = omega arith in
-      mul_comm p n ∙ ap (λ (k : ℕ). n * k) (sym p1) ∙ sym (total-repeat n (p ∷ [])) ∙ ap total widths-repeat
-      ∙ total-repeat count (element_widths size float three) ∙ ap (λ (k : ℕ). count * k) (sym (point_is_elements size float three))
-
-  pub elements-count : n ≡ count * length (element_widths size float three)
-  elements-count = sym (mul-one n) ∙ sym (length-repeat n (p ∷ [])) ∙ ap length widths-repeat ∙ length-repeat count (element_widths size float three)

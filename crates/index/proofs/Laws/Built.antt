@@ -9,7 +9,7 @@ use native.Mathlib.Numerals.{add-one}
 use native.Mathlib.Omega.{arith}
 use Rattle.fields.proofs.Laws.Low.{bytes_low}
 use Rattle.index.proofs.Laws.Hopped.{hopped-length, hopped_split}
-use Rattle.index.proofs.Laws.Writing.{Writing, fits, turn, done, two}
+use Rattle.index.proofs.Laws.Writing.{Writing, start, fits, turn, done, two}
 use Rattle.index.specs.Hopped.{hopped, place_after}
 use Rattle.layout.specs.Bytes.{bytes, flat, total}
 use Rattle.layout.specs.Index.Blocks.{encode_entry, encode_unsummed, encode_block, encode_blocks, encode_index, begun}
@@ -17,6 +17,7 @@ use Rattle.layout.specs.declared.BlockKind.TheVariants.{New}
 use Rattle.layout.specs.declared.Entry.{Entry}
 use Rattle.laws.proofs.Index.Blocks.{unsummed_length, block-length}
 use Rattle.laws.proofs.Index.Entries.{entry_length, entries-length}
+use Rattle.reading.specs.Found.{Hops}
 
 -- an entry, number by number
 pub entry_put : (e : Entry) (p : List ℕ) (w : ℕ) (p₁ p₂ p₃ : List ℕ) → p₁ ≡ sets p (w + 0) (bytes 4 e.code)
@@ -70,6 +71,14 @@ block_put k es p w most h p₁ p₂ sum e s f =
     ∙ ap total (sets-read p w 510 b l (omega arith)) in
     let u : bytes 2 (sum % 65536) ≡ bytes 2 (total b % 65536) = ap (λ v. bytes 2 (v % 65536)) t in
     two p w b p₁ e (w + 510) (bytes 2 (total b % 65536)) p₂ (f ∙ ap (λ v. sets p₁ (w + 510) v) u) (omega (arith, l))
+
+-- the loop that puts entries, at its start: m of the n records are left
+pub entries_start : (s : List ℕ) (n m at : ℕ) (p : List ℕ) (w : ℕ) → m ≡ n → Hops n at s → w + 9 * n ≤ length p
+    → Hops m at s × (place_after m at s ≡ place_after n at s)
+    × Writing p w (flat (encode_entry New) (hopped n at s)) p w (flat (encode_entry New) (hopped m at s))
+entries_start s n m at p w e h f =
+    let long = entries-length New (hopped n at s) in
+    rw e (h, refl, start p w _ w _ refl refl (omega (arith, long, hopped-length n at s, f)))
 
 -- one turn of the loop that puts entries: `rest` are those that are left, and e is the first of them
 module _ (p₀ : List ℕ) (w₀ : ℕ) (all p : List ℕ) (w : ℕ) (rest : List Entry) (g : Writing p₀ w₀ all p w (flat (encode_entry New) rest))

@@ -17,10 +17,10 @@ use Rattle.layout.specs.Refusals.{BAD_BLOCK}
 use Rattle.layout.specs.Walk.{Answer, given, refused}
 use Rattle.layout.specs.declared.BlockKind.{BlockKind}
 use Rattle.layout.specs.declared.Entry.{Entry}
-use Rattle.layout.specs.declared.Indexed.TheVariants.{Accepted, Refused}
 use Rattle.laws.proofs.Index.Blocks.{full-some, good_back}
 use Rattle.laws.proofs.Index.Entries.{entries-count}
 use Rattle.laws.proofs.Index.Files.{index_sound, index_length}
+use Rattle.std.specs.Prelude.{Ok, Err}
 
 pub good_facts : (kind : BlockKind) (k : ℕ) (ys : List ℕ) → true ≡ good_block kind k ys → (512 ≤ length ys) × (count_in ys ≤ 63)
 good_facts kind k ys b = let g = good_back kind k ys (sym b) in (g.enough, omega (arith, g.counted.most, full-some kind))
@@ -72,7 +72,7 @@ module _ (xs : List ℕ) where
       step : left k ≡ suc (left (suc k))
       step = omega arith
 
-      pub going_stop : false ≡ good_block kind k (drop at xs) → Refused (refusal BAD_BLOCK at 0) ≡ indexed_of kind (entries_in xs)
+      pub going_stop : false ≡ good_block kind k (drop at xs) → Err (refusal BAD_BLOCK at 0) ≡ indexed_of kind (entries_in xs)
       unfolding blocks_in block_in indexed_of
       going_stop b =
           let here : good_block kind k (drop (512 * k) xs) ≡ false = ap (λ p. good_block kind k (drop p xs)) (sym place) ∙ sym b in
@@ -94,7 +94,7 @@ module _ (xs : List ℕ) where
             is = g.is ∙ ap (λ w. and_then w (λ more. given (g.so_far ++ more))) one ∙ then-more g.so_far (block_entries kind ys) (rest (suc k));
           })
 
-    pub going_done : Bytes xs → at ≡ length xs → Accepted (record { entries = count; blocks = k }) ≡ indexed_of kind (entries_in xs)
+    pub going_done : Bytes xs → at ≡ length xs → Ok (record { entries = count; blocks = k }) ≡ indexed_of kind (entries_in xs)
     unfolding blocks_in indexed_of
     going_done bs h =
         let z : left k ≡ 0 = omega arith in

@@ -19,14 +19,15 @@ module _ (f : ℕ → Entry → List ℕ) (i : ℕ) (rest : List Entry) where
   unfolding each
   each_turn e more is = rw (is, add-one i)
 
-  pub each_done : rest ≡ [] → each f i rest ≡ []
-  unfolding each
-  each_done is = rw is
-
   -- the same for a loop that counts
   pub count_turn : (e : Entry) (more : List Entry) → rest ≡ e ∷ more → (s : ℕ) → s ≡ length (f i e)
       → length (each f i rest) ≡ s + length (each f (i + 1) more)
   count_turn e more is s h = ap length (each_turn e more is) ∙ length-append (f i e) (each f (i + 1) more) ∙ rw h refl
+
+pub each_done : (f : ℕ → Entry → List ℕ) (i : ℕ) (rest : List Entry) → length rest ≤ 0 → each f i rest ≡ []
+unfolding each
+each_done f i [] h = refl
+each_done f i (e ∷ rest) h = absurd (omega arith)
 
 -- a hit has three numbers, and what is no hit none
 module _ (code i : ℕ) (e : Entry) where

@@ -50,43 +50,37 @@ hops_split (suc m) n place s h =
     let r = hops_split m n (place + number_in Field.total (drop place s)) s g.2 in
     ((g.0, g.1, r.0), r.1)
 
--- the loops' n records, i of which are past
-module _ (s : List ℕ) (n i at : ℕ) (h : i < n) where
-  down : n - i ≡ suc (n - (i + 1))
+-- the first of so many records, after which m are left
+module _ (s : List ℕ) (left m at : ℕ) (h : 0 < left) (one : m ≡ left - 1) where
+  down : left ≡ suc m
   down = omega arith
 
   pub record Hop (e : Entry) (after : ℕ) : Type 0 where
-    pub rest : hopped (n - i) at s ≡ e ∷ hopped (n - (i + 1)) after s
-    pub hops : Hops (n - (i + 1)) after s
-    pub place : place_after (n - (i + 1)) after s ≡ place_after (n - i) at s
+    pub rest : hopped left at s ≡ e ∷ hopped m after s
+    pub hops : Hops m after s
+    pub place : place_after m after s ≡ place_after left at s
 
-  pub hop-within : Hops (n - i) at s → (at + Field.size ≤ length s) × (at + number_in Field.total (drop at s) ≤ length s)
+  pub hop-within : Hops left at s → (at + Field.size ≤ length s) × (at + number_in Field.total (drop at s) ≤ length s)
   unfolding Hops
   hop-within g = let f = subst (λ k. Hops k at s) down g in (f.0, f.1)
 
-  pub hop_on : Hops (n - i) at s → (e : Entry) → e ≡ entry_of s at → (after : ℕ) → after ≡ at + number_in Field.total (drop at s) → Hop e after
+  pub hop_on : Hops left at s → (e : Entry) → e ≡ entry_of s at → (after : ℕ) → after ≡ at + number_in Field.total (drop at s) → Hop e after
   unfolding Hops hopped place_after
   hop_on g e ee after ea =
       let f = subst (λ k. Hops k at s) down g in
       record {
         rest = ap (λ k. hopped k at s) down ∙ rw (ee, ea) refl;
-        hops = subst (λ k. Hops (n - (i + 1)) k s) (sym ea) f.2;
-        place = ap (λ k. place_after (n - (i + 1)) k s) ea ∙ sym (ap (λ k. place_after k at s) down);
+        hops = subst (λ k. Hops m k s) (sym ea) f.2;
+        place = ap (λ k. place_after m k s) ea ∙ sym (ap (λ k. place_after k at s) down);
       }
 
-pub hopped-none : (s : List ℕ) (n i at : ℕ) → n ≤ i → hopped (n - i) at s ≡ []
+pub hopped-none : (s : List ℕ) (left at : ℕ) → left ≤ 0 → hopped left at s ≡ []
 unfolding hopped
-hopped-none s n i at h = let z : n - i ≡ 0 = omega arith in ap (λ k. hopped k at s) z
+hopped-none s left at h = let z : left ≡ 0 = omega arith in ap (λ k. hopped k at s) z
 
-pub after-all : (s : List ℕ) (n i at : ℕ) → n ≤ i → place_after (n - i) at s ≡ at
+pub after-all : (s : List ℕ) (left at : ℕ) → left ≤ 0 → place_after left at s ≡ at
 unfolding place_after
-after-all s n i at h = let z : n - i ≡ 0 = omega arith in ap (λ k. place_after k at s) z
-
-pub hopped-all : (s : List ℕ) (n at : ℕ) → hopped (n - 0) at s ≡ hopped n at s
-hopped-all s n at = let z : n - 0 ≡ n = omega arith in ap (λ k. hopped k at s) z
-
-pub hops-all : (s : List ℕ) (n at : ℕ) → Hops n at s → Hops (n - 0) at s
-hops-all s n at h = let z : n ≡ n - 0 = omega arith in subst (λ k. Hops k at s) z h
+after-all s left at h = let z : left ≡ 0 = omega arith in ap (λ k. place_after k at s) z
 
 -- fine records, one after another from a place on
 hopped-is : (place : ℕ) (l : List Record) (s : List ℕ) → All FineRecord l → drop place s ≡ flat encode_record l → hopped (length l) place s ≡ entries_of place l

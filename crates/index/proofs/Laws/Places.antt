@@ -38,6 +38,13 @@ drop-part p n xs h = let z : n ≡ p + (n - p) = omega arith in ap (λ m. drop p
 field-part : (p w n : ℕ) (xs : List ℕ) → p + w ≤ n → number w (drop p (take n xs)) ≡ number w (drop p xs)
 field-part p w n xs h = ap (number w) (drop-part p n xs (omega arith)) ∙ number-part w (n - p) (drop p xs) (omega arith)
 
+-- an entry of a kind has so many bytes
+pub old_size : (kind : BlockKind) → kind ≡ Old → Field.size kind ≡ 8
+old_size kind e = ap Field.size e
+
+pub new_size : (kind : BlockKind) → kind ≡ New → Field.size kind ≡ 9
+new_size kind e = ap Field.size e
+
 -- places
 place_in : (kind : BlockKind) (i : ℕ) → i < Block.full kind → place_of kind i ≡ 4 + Field.size kind * i
 place_in Old i h = omega arith
@@ -47,7 +54,7 @@ place_on : (kind : BlockKind) (i : ℕ) → place_of kind (Block.full kind + i) 
 place_on Old i = omega arith
 place_on New i = omega arith
 
-pub place-within : (kind : BlockKind) (i n : ℕ) (xs : List ℕ) → i < n → Holds kind n xs → (p : ℕ) → p ≡ place_of kind i → p + Field.size kind ≤ length xs
+place-within : (kind : BlockKind) (i n : ℕ) (xs : List ℕ) → i < n → Holds kind n xs → (p : ℕ) → p ≡ place_of kind i → p + Field.size kind ≤ length xs
 place-within Old i n xs h o p e = omega (arith, e, o.0)
 place-within New i n xs h o p e = omega (arith, e, o.0)
 
@@ -136,21 +143,20 @@ index_placed xs bs es e =
     let long : length xs ≡ 512 * begun (Block.full kind) (length es) = ap length (sym made) ∙ index_length kind es fine in
     (blocks-placed kind (begun 512 (length xs)) 0 xs (begins-block (length xs)) es e, (omega (arith, long), few-entries kind (length es) fine.blocks))
 
--- the loops' n entries, from entry i on
-module _ (kind : BlockKind) (xs : List ℕ) (n i : ℕ) where
-  pub entries-turn : i < n → (p : ℕ) → p ≡ place_of kind i → (e : Entry) → e ≡ entry_in kind (drop p xs)
-      → entries_at kind xs i (n - i) ≡ e ∷ entries_at kind xs (i + 1) (n - (i + 1))
+-- the first of so many entries, from entry i on
+module _ (kind : BlockKind) (xs : List ℕ) (i count : ℕ) (h : 0 < count) where
+  pub entry_first : (p : ℕ) → p ≡ place_of kind i → (e : Entry) → e ≡ entry_in kind (drop p xs)
+      → entries_at kind xs i count ≡ e ∷ entries_at kind xs (i + 1) (count - 1)
   unfolding entries_at
-  entries-turn h p place e is =
-      let z : n - i ≡ suc (n - (i + 1)) = omega arith in
+  entry_first p place e is =
+      let z : count ≡ suc (count - 1) = omega arith in
       ap (entries_at kind xs i) z ∙ rw (add-one i, is, place) refl
 
-  pub entries_done : n ≤ i → entries_at kind xs i (n - i) ≡ []
-  unfolding entries_at
-  entries_done h = let z : n - i ≡ 0 = omega arith in ap (entries_at kind xs i) z
+  pub entry_within : Holds kind (i + count) xs → (p : ℕ) → p ≡ place_of kind i → p + Field.size kind ≤ length xs
+  entry_within o p e = place-within kind i (i + count) xs (omega arith) o p e
 
-pub entries-start : (kind : BlockKind) (xs : List ℕ) (n : ℕ) → entries_at kind xs 0 (n - 0) ≡ entries_at kind xs 0 n
-entries-start kind xs n = let z : n - 0 ≡ n = omega arith in ap (entries_at kind xs 0) z
+  pub entry_past : Holds kind (i + count) xs → Holds kind (i + 1 + (count - 1)) xs
+  entry_past o = let z : i + 1 + (count - 1) ≡ i + count = omega arith in rw z o
 
 pub at_length : (kind : BlockKind) (xs : List ℕ) (i n : ℕ) → length (entries_at kind xs i n) ≡ n
 unfolding entries_at

@@ -2,7 +2,7 @@
 use mathlib.Core.Bool.{true, false}
 use mathlib.Core.List.{List}
 use mathlib.Core.Path.{◌≡◌, refl, ap, sym, ◌∙◌}
-use Prim.Native.Nat.{ℕ, ◌≤◌, ◌<◌}
+use Prim.Native.Nat.{ℕ, ◌+◌, ◌≤◌, ◌<◌}
 use borrow.Author.Tests.{le-leb, lt-leb}
 use lib.Dec.{leb}
 use lib.ListN.{length}
@@ -21,25 +21,22 @@ use Rattle.layout.specs.Walk.{Answer, given, refused}
 use Rattle.layout.specs.declared.BlockKind.{BlockKind}
 use Rattle.layout.specs.declared.Entry.{Entry}
 use Rattle.layout.specs.declared.IndexSizes.{IndexSizes}
-use Rattle.layout.specs.declared.Indexed.TheVariants as Index
-use Rattle.layout.specs.declared.Indexed.{Indexed}
 use Rattle.layout.specs.declared.Refusal.{Refusal}
-use Rattle.layout.specs.declared.Written.TheVariants.{Length, Refused}
-use Rattle.layout.specs.declared.Written.{Written}
+use Rattle.std.specs.Prelude.{Result, Ok, Err}
 
 -- a call is to give w in a slice that held `old`: what it answers, and what the slice holds then
-abbrev pub Told : List ℕ → Answer (List ℕ) → Written → List ℕ → Type 0
+abbrev pub Told : List ℕ → Answer (List ℕ) → Result ℕ Refusal → List ℕ → Type 0
 Told old w r out = (r ≡ written_of w) × (out ≡ lent the_given w old)
 
 -- a list of n numbers
 module _ (old l : List ℕ) (n : ℕ) (count : n ≡ length l) where
-  pub told_short : length old < n → (r : Written) → r ≡ Refused (refusal ROOM 0 0) → Told old (in_room (length old) l) r old
+  pub told_short : length old < n → (r : Result ℕ Refusal) → r ≡ Err (refusal ROOM 0 0) → Told old (in_room (length old) l) r old
   unfolding written_of
   told_short h r e =
       let b : leb (length l) (length old) ≡ false = lt-leb (length l) (length old) (omega arith) in
       (rw b e, rw b refl)
 
-  pub told_fits : n ≤ length old → (out : List ℕ) → out ≡ sets old 0 l → Told old (in_room (length old) l) (Length n) out
+  pub told_fits : n ≤ length old → (out : List ℕ) → out ≡ sets old 0 l → Told old (in_room (length old) l) (Ok n) out
   unfolding written_of
   told_fits h out e =
       let b : leb (length l) (length old) ≡ true = le-leb (length l) (length old) (omega arith) in
@@ -47,37 +44,33 @@ module _ (old l : List ℕ) (n : ℕ) (count : n ≡ length l) where
 
 -- what is made of something else, by f: that is refused, or given as l
 module _ {A : Type 0} (w : Answer A) (f : A → List ℕ) (old : List ℕ) where
-  pub told_refused : (q : Refusal) → w ≡ refused q.number q.place q.year
-      → Told old (roomed (length old) (and_then w (λ a. given (f a)))) (Refused q) old
+  pub told_refused : (q : Refusal) → w ≡ refused q.reason q.place q.year
+      → Told old (roomed (length old) (and_then w (λ a. given (f a)))) (Err q) old
   unfolding written_of
   told_refused q e = rw e (refl, refl)
 
-  pub told_given : (a : A) → w ≡ given a → (l : List ℕ) → f a ≡ l → (r : Written) (out : List ℕ) → Told old (in_room (length old) l) r out
+  pub told_given : (a : A) → w ≡ given a → (l : List ℕ) → f a ≡ l → (r : Result ℕ Refusal) (out : List ℕ) → Told old (in_room (length old) l) r out
       → Told old (roomed (length old) (and_then w (λ a. given (f a)))) r out
   told_given a e l i r out t = rw (e, i) t
 
 -- what the check's answer says of an index
-by_accepted : (kind : BlockKind) (w : Answer (List Entry)) (z : IndexSizes) → Index.Accepted z ≡ indexed_of kind w
+by_accepted : (kind : BlockKind) (w : Answer (List Entry)) (z : IndexSizes) → Ok z ≡ indexed_of kind w
     → (es : List Entry) × (w ≡ given es) × (length es ≡ z.entries)
 unfolding indexed_of
 by_accepted kind (given es) z e = let is : index_sizes kind es ≡ z = cc in (es, refl, ap (λ (v : IndexSizes). v.entries) is)
 by_accepted kind (refused n p y) z e = absurd (let q : ◌≡◌ {A = ℕ} 0 1 = cc in omega arith)
 
-pub by_refusal : (kind : BlockKind) (w : Answer (List Entry)) (q : Refusal) → Index.Refused q ≡ indexed_of kind w → w ≡ refused q.number q.place q.year
+pub by_refusal : (kind : BlockKind) (w : Answer (List Entry)) (q : Refusal) → Err q ≡ indexed_of kind w → w ≡ refused q.reason q.place q.year
 unfolding indexed_of
 by_refusal kind (given es) q e = absurd (let z : ◌≡◌ {A = ℕ} 0 1 = cc in omega arith)
 by_refusal kind (refused n p y) q e = cc
 
--- what the check's `Accepted` says of an index
-pub record Checked (xs : List ℕ) (kind : BlockKind) (count : ℕ) : Type 0 where
-  pub entries : List Entry
-  pub is : entries_in xs ≡ given entries
-  pub placed : entries ≡ entries_at kind xs 0 count
-  pub holds : Holds kind count xs
-
-pub checked : (xs : List ℕ) → Bytes xs → (r : Indexed) → r ≡ indexed_of (file_kind xs) (entries_in xs) → (z : IndexSizes) → r ≡ Index.Accepted z
-    → (kind : BlockKind) → kind ≡ file_kind xs → Checked xs kind z.entries
-checked xs bs r e z a kind is-kind =
+-- an index that the check has accepted
+pub accepted : (xs : List ℕ) → Bytes xs → (r : Result IndexSizes Refusal) → r ≡ indexed_of (file_kind xs) (entries_in xs) → (z : IndexSizes) → r ≡ Ok z
+    → (kind : BlockKind) → kind ≡ file_kind xs
+    → (entries_in xs ≡ given (entries_at kind xs 0 z.entries)) × Holds kind (0 + z.entries) xs
+accepted xs bs r e z a kind is-kind =
     let (es, is, long) = by_accepted (file_kind xs) (entries_in xs) z (sym a ∙ e) in
     let (placed, holds) = index_placed xs bs es is in
-    rw (is-kind, ← long) (record { entries = es; is = is; placed = placed; holds = holds })
+    let none : 0 + z.entries ≡ z.entries = omega arith in
+    rw (none, is-kind, ← long) (is ∙ ap given placed, holds)

@@ -16,6 +16,7 @@ use Rattle.layout.specs.Walk.{fill, whole}
 use Rattle.laws.proofs.Base.Lists.{all_drop}
 use Rattle.laws.proofs.Base.Walks.{given_inj, answer_bind, bind_case, bind_on, checks_case, checks_on, Allowed, allowed_append, allowed-always}
 use Rattle.laws.proofs.Base.Walks.{allowed-up_to, outcome-is}
+use Rattle.layout.specs.declared.refusals.Reason.{Reason}
 
 -- what a reader took: v is the value and the count of its bytes
 abbrev pub Took : {A : Type 0} → (ℕ → Bool) → (A → List ℕ) → (A → Type 0) → (A → List ℕ) → List ℕ → Piece A → Type 0
@@ -69,7 +70,7 @@ module _ {A : Type 0} (al : ℕ → Bool) (r : Reader A) (E : A → List ℕ) (F
         (times-complete p l rest f.1 y);
   }
 
-  pub whole_fills : (n : ℕ) → Fills al (whole n r) E F Y
+  pub whole_fills : (n : Reason) → Fills al (whole n r) E F Y
   whole_fills n = record {
     sound = λ p xs bs a e.
         bind_case al (r p xs) _ a e λ t h i.

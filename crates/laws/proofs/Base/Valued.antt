@@ -8,23 +8,24 @@ use lib.ListN.{length, drop, length-drop}
 use native.Mathlib.Omega.{arith}
 use Rattle.layout.specs.Walk.{ends, given, answer, must, Piece, piece, Reader, pair, whole}
 use Rattle.laws.proofs.Base.Walks.{given_inj, bind_case, checks_case}
+use Rattle.layout.specs.declared.refusals.Reason.{Reason}
 
 -- the reader r gives what `one` reads, of `size` bytes that are there
 pub record Valued {A : Type 0} (al : ℕ → Bool) (r : Reader A) (one : List ℕ → A) (size : List ℕ → ℕ) : Type 0 where
   pub value : (p : ℕ) (xs : List ℕ) (v : Piece A) → answer al (r p xs) ≡ given v → (v ≡ piece (one xs) (size xs)) × (size xs ≤ length xs)
 
 module _ {A : Type 0} (al : ℕ → Bool) (r : Reader A) (one : List ℕ → A) (size : List ℕ → ℕ) (R : Valued al r one size) where
-  pub whole-value : (refusal p : ℕ) (xs : List ℕ) (a : A) → answer al (whole refusal r p xs) ≡ given a → (a ≡ one xs) × (size xs ≤ length xs)
-  whole-value refusal p xs a e =
+  pub whole-value : (n : Reason) (p : ℕ) (xs : List ℕ) (a : A) → answer al (whole n r p xs) ≡ given a → (a ≡ one xs) × (size xs ≤ length xs)
+  whole-value n p xs a e =
       bind_case al (r p xs) _ a e λ t h i.
-      checks_case al (p + t.size) (must (leb (length xs) t.size) refusal 0 ∷ []) (ends t.value) a i λ c y g.
+      checks_case al (p + t.size) (must (leb (length xs) t.size) n 0 ∷ []) (ends t.value) a i λ c y g.
       let b = R.value p xs t h in
       (sym (given_inj g) ∙ ap (λ z. z.value) b.0, b.1)
 
   -- the walk itself, out of the whole
-  pub whole_inner : {C : Type 0} (refusal p : ℕ) (xs : List ℕ) (a : A) → answer al (whole refusal r p xs) ≡ given a
+  pub whole_inner : {C : Type 0} (n : Reason) (p : ℕ) (xs : List ℕ) (a : A) → answer al (whole n r p xs) ≡ given a
       → ((t : Piece A) → answer al (r p xs) ≡ given t → C) → C
-  whole_inner refusal p xs a e k = bind_case al (r p xs) _ a e λ t h i. k t h
+  whole_inner n p xs a e k = bind_case al (r p xs) _ a e λ t h i. k t h
 
 pub pair_valued : {A B : Type 0} (al : ℕ → Bool) (r : Reader A) (one : List ℕ → A) (size : List ℕ → ℕ) → Valued al r one size
     → (q : Reader B) (other : List ℕ → B) (more : List ℕ → ℕ) → Valued al q other more

@@ -12,12 +12,13 @@ use Rattle.layout.specs.Refusals.{TOO_NEW}
 use Rattle.layout.specs.Walk.{Walk, ends, stops, meets, outcome, Answer, given, refused, answer, up_to, always, ◌>>=◌, ◌>>◌, Check, must, dated, checks, Holds}
 use Rattle.layout.specs.Walk.{years_of}
 use Rattle.laws.proofs.Base.Lists.{all_append}
+use Rattle.layout.specs.declared.refusals.Reason.{Reason}
 
 pub given_inj : {A : Type 0} {a b : A} → given a ≡ given b → a ≡ b
 given_inj e = cc
 
 -- a refusal gives nothing
-pub cond_back : {A : Type 0} (t : Bool) (w : Answer A) (n p z : ℕ) (a : A) → cond t w (refused n p z) ≡ given a → (t ≡ true) × (w ≡ given a)
+pub cond_back : {A : Type 0} (t : Bool) (w : Answer A) (n : Reason) (p z : ℕ) (a : A) → cond t w (refused n p z) ≡ given a → (t ≡ true) × (w ≡ given a)
 cond_back true w n p z a e = (refl, e)
 cond_back false w n p z a e = let z : ◌≡◌ {A = ℕ} 0 1 = cc in absurd (omega arith)
 
@@ -94,7 +95,7 @@ answer_bind al (meets p z w) f = step (al z) (answer_bind al w f)
     step true e = e
     step false e = refl
 
-pub bind_refused : {A B : Type 0} {n p z : ℕ} (al : ℕ → Bool) (w : Walk A) (f : A → Walk B) → answer al w ≡ refused n p z → answer al (w >>= f) ≡ refused n p z
+pub bind_refused : {A B : Type 0} {n : Reason} {p z : ℕ} (al : ℕ → Bool) (w : Walk A) (f : A → Walk B) → answer al w ≡ refused n p z → answer al (w >>= f) ≡ refused n p z
 bind_refused al w f e = answer_bind al w f ∙ ap (λ v. and_then v (λ a. answer al (f a))) e
 
 pub then_back : {A B : Type 0} (w : Answer A) (f : A → Answer B) (b : B) → and_then w f ≡ given b → (a : A) × (w ≡ given a) × (f a ≡ given b)

@@ -13,14 +13,11 @@ use Rattle.layout.specs.Refusals.{SUM, TOO_NEW, LENGTH, ROOM, ASK}
 use Rattle.layout.specs.Sheet.{Table}
 use Rattle.layout.specs.Walk.{given, refused, Met, met}
 use Rattle.layout.specs.Writing.Tables.{table}
-use Rattle.layout.specs.declared.Checked.TheVariants as Checked
 use Rattle.layout.specs.declared.Corners.TheVariants as Corners
-use Rattle.layout.specs.declared.Found.TheVariants as Found
-use Rattle.layout.specs.declared.Headed.TheVariants as Headed
 use Rattle.layout.specs.declared.SheetUnit.TheVariants as Unit-is
-use Rattle.layout.specs.declared.UnitAnswer.TheVariants as Units
 use Rattle.laws.proofs.Cases.Reading.{sealed}
 use Rattle.laws.proofs.Samples.{with, sheet, point, sheet_e, sheet_p, sheet_q, head_of}
+use Rattle.std.specs.Prelude.{Ok, Err}
 
 abbrev rooms : ℕ → ℕ → ℕ → Rooms
 rooms n e b = record { numbers = n; elements = e; bytes = b }
@@ -30,8 +27,8 @@ calls : (unfolded 2017 sheet_q (rooms 14 1 1) ≡ refused ROOM 1 0)
     × (unfolded 2017 sheet_q (rooms 15 1 1) ≡ refused ROOM 2 0)
     × (unfolded 2017 sheet_q (rooms 15 2 1) ≡ refused ROOM 3 0)
     × (unfolded 2017 (sheet 796 0 []) (rooms 0 0 0) ≡ refused SUM 12 0)
-    × (checked_of (reading 2017 sheet_q) ≡ Checked.Accepted (record { sum = 2384; records = 1; numbers = 15; elements = 2; bytes = 2 }))
-    × (checked_of (reading 2017 (sheet 796 0 [])) ≡ Checked.Refused (record { number = 5; place = 12; year = 0 }))
+    × (checked_of (reading 2017 sheet_q) ≡ Ok (record { sum = 2384; records = 1; numbers = 15; elements = 2; bytes = 2 }))
+    × (checked_of (reading 2017 (sheet 796 0 [])) ≡ Err (record { reason = SUM; place = 12; year = 0 }))
     × (asked 2017 (sheet 796 0 []) 7 ≡ refused SUM 12 0)
     × (asked 2017 sheet_p 1 ≡ refused ASK 0 0)
 unfolding computing
@@ -39,7 +36,7 @@ calls = (refl, refl, refl, refl, refl, refl, refl, refl)
 
 -- Q's record as the third, behind two of P's
 found : found_of (asked 2017 (sealed (sheet 0 3 (point 2 0 36 [] ++ point 2 0 36 [] ++ point 2 2 42 (1 ∷ 0 ∷ 2 ∷ 255 ∷ 249 ∷ 4 ∷ [])))) 2)
-    ≡ Found.Record (record {
+    ≡ Ok (record {
       place = 524;
       total = 42;
       code = 0;
@@ -59,11 +56,11 @@ found = refl
 abbrev zero_double : Float
 zero_double = of_bits binary64 0
 
-views : (unit_in (reading 2017 sheet_e) ≡ Units.Unit Unit-is.DevicePoints)
-    × (unit_in (reading 2017 (sealed (with 315 (0x80 ∷ []) (with 236 (65 ∷ []) sheet_e)))) ≡ Units.Unit Unit-is.Degrees)
-    × (unit_in (reading 2017 (sheet 796 0 [])) ≡ Units.Refused (record { number = 5; place = 12; year = 0 }))
+views : (unit_in (reading 2017 sheet_e) ≡ Ok Unit-is.DevicePoints)
+    × (unit_in (reading 2017 (sealed (with 315 (0x80 ∷ []) (with 236 (65 ∷ []) sheet_e)))) ≡ Ok Unit-is.Degrees)
+    × (unit_in (reading 2017 (sheet 796 0 [])) ≡ Err (record { reason = SUM; place = 12; year = 0 }))
     × (corners_in (reading 2017 (sealed (with 166 (0xF0 ∷ 0x3F ∷ []) sheet_e)))
-    ≡ Corners.Doubles (record {
+    ≡ Ok (Corners.Doubles (record {
       sw_x = zero_double;
       sw_y = zero_double;
       nw_x = zero_double;
@@ -73,10 +70,10 @@ views : (unit_in (reading 2017 sheet_e) ≡ Units.Unit Unit-is.DevicePoints)
       se_x =
           zero_double;
       se_y = of_bits binary64 0x3FF0000000000000;
-    }))
+    })))
     -- the third corner is no number: its place, and all eight as stored
     × (corners_in (reading 2017 (sealed (with 126 (0xF8 ∷ 0x7F ∷ []) sheet_e)))
-    ≡ Corners.Bits 120 (record { sw_x = 0; sw_y = 0; nw_x = 0x7FF8000000000000; nw_y = 0; ne_x = 0; ne_y = 0; se_x = 0; se_y = 0 }))
+    ≡ Ok (Corners.Bits 120 (record { sw_x = 0; sw_y = 0; nw_x = 0x7FF8000000000000; nw_y = 0; ne_x = 0; ne_y = 0; se_x = 0; se_y = 0 })))
 unfolding computing nan_bits
 views = (refl, refl, refl, refl, refl)
 

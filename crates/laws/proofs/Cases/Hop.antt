@@ -14,8 +14,8 @@ use Rattle.layout.specs.Hop.{hit, no_hit, start_checks, hop_walk, hop, frame, pa
 use Rattle.layout.specs.Reading.Sheets.{size_checks}
 use Rattle.layout.specs.Refusals.{TOO_LONG, SHORT, NOT_SXF, LENGTH}
 use Rattle.layout.specs.Walk.{given, refused}
-use Rattle.layout.specs.declared.Hopped.TheVariants as Hops
 use Rattle.laws.proofs.Samples.{with, sheet, point, sheet_e, sheet_p}
+use Rattle.std.specs.Prelude.{Ok, Err}
 
 -- "1 [..] as for sheet size", whatever the bytes are
 pub hop-over-limit : (wanted : ℕ) (s : List ℕ) → leb (length s) limit ≡ false → hop wanted s ≡ refused TOO_LONG 0 0
@@ -80,7 +80,7 @@ unfolding computing
 passings = (refl, refl, refl, refl, refl, refl)
 
 -- the answers as programs have them
-rows : (hopped_of (hop 8 three) ≡ Hops.Hop (hit 1 488 36)) × (hopped_of (hop 9 (take 555 three)) ≡ Hops.Refused (refusal 2 524 0))
+rows : (hopped_of (hop 8 three) ≡ Ok (hit 1 488 36)) × (hopped_of (hop 9 (take 555 three)) ≡ Err (refusal SHORT 524 0))
     × (hop_row (hopped_of (hop 8 three)) ≡ record { number = 0; place = 0; year = 0; found = 1; «record» = 1; at = 488; total = 36; looked = 2 })
     × (hop_row (hopped_of (hop 9 three)) ≡ record { number = 0; place = 0; year = 0; found = 0; «record» = 0; at = 0; total = 0; looked = 3 })
     × (hop_row (hopped_of (hop 9 (with 492 (31 ∷ []) three)))

@@ -10,13 +10,14 @@ use Rattle.layout.specs.Bytes.{bytes}
 use Rattle.layout.specs.Computing.{computing}
 use Rattle.layout.specs.Index.Reading.{file_kind, entries_in}
 use Rattle.layout.specs.Index.Selecting.{index_by, index_of, selected, picked, entry_rows}
-use Rattle.layout.specs.Refusals.{SUM, ROOM, ASK, BAD_BLOCK}
+use Rattle.layout.specs.Refusals.{SUM, ROOM, ASK, BAD_BLOCK, refusal_number}
 use Rattle.layout.specs.Walk.{given, refused}
 use Rattle.layout.specs.declared.BlockKind.TheVariants.{Old}
-use Rattle.layout.specs.declared.Indexed.TheVariants as Index
-use Rattle.layout.specs.declared.Indexed.{Indexed}
 use Rattle.laws.proofs.Cases.Reading.{sealed}
 use Rattle.laws.proofs.Samples.{with, sheet, point, sheet_e}
+use Rattle.layout.specs.declared.IndexSizes.{IndexSizes}
+use Rattle.layout.specs.declared.Refusal.{Refusal}
+use Rattle.std.specs.Prelude.{Result, Ok, Err}
 
 -- number, count, entries and zeros, the two bytes, sum
 abbrev block : ℕ → ℕ → List ℕ → ℕ → ℕ → List ℕ
@@ -94,20 +95,21 @@ first_new = block 0 56 (replicate 504 255) 1 63041
 abbrev second_new : List ℕ
 second_new = block 1 1 (replicate 9 2) 1 21
 
-abbrev checked : List ℕ → Indexed
+abbrev checked : List ℕ → Result IndexSizes Refusal
 checked xs = indexed_of (file_kind xs) (entries_in xs)
 
-blocks : (checked (first_old ++ second_old) ≡ Index.Accepted (record { entries = 64; blocks = 2 }))
-    × (checked (first_new ++ second_new) ≡ Index.Accepted (record { entries = 57; blocks = 2 }))
-    × (checked first_old ≡ Index.Accepted (record { entries = 63; blocks = 1 })) × (checked first_new ≡ Index.Accepted (record { entries = 56; blocks = 1 }))
-    × (checked (second_old ++ first_old) ≡ Index.Refused (record { number = 18; place = 0; year = 0 }))
+blocks : (checked (first_old ++ second_old) ≡ Ok (record { entries = 64; blocks = 2 }))
+    × (checked (first_new ++ second_new) ≡ Ok (record { entries = 57; blocks = 2 }))
+    × (checked first_old ≡ Ok (record { entries = 63; blocks = 1 })) × (checked first_new ≡ Ok (record { entries = 56; blocks = 1 }))
+    × (checked (second_old ++ first_old) ≡ Err (record { reason = BAD_BLOCK; place = 0; year = 0 }))
     × (entries_in (first_new ++ first_new) ≡ refused BAD_BLOCK 512 0) × (entries_in second_new ≡ refused BAD_BLOCK 0 0)
     × (entries_in (first_old ++ take 511 second_old) ≡ refused BAD_BLOCK 512 0) × (entries_in (first_new ++ second_new ++ 0 ∷ []) ≡ refused BAD_BLOCK 512 0)
     × (entries_in (three_old ++ second_old) ≡ refused BAD_BLOCK 0 0) × (entries_in (three_new ++ second_new) ≡ refused BAD_BLOCK 0 0)
     × (entries_in (first_new ++ block 1 1 (replicate 9 2) 1 22) ≡ refused BAD_BLOCK 512 0)
     × (entries_in (first_old ++ 0 ∷ []) ≡ refused BAD_BLOCK 512 0) × (entries_in (first_new ++ block 1 0 [] 1 2) ≡ refused BAD_BLOCK 512 0)
+    × (refusal_number BAD_BLOCK ≡ 18)
 unfolding computing
-blocks = (refl, refl, refl, refl, refl, refl, refl, refl, refl, refl, refl, refl, refl, refl)
+blocks = (refl, refl, refl, refl, refl, refl, refl, refl, refl, refl, refl, refl, refl, refl, refl)
 
 -- "18 also for mixed kinds", where all else is right; and 56 entries do not fill an old block
 mixed : (entries_in (first_old ++ block 1 1 (replicate 8 2) 1 19) ≡ refused BAD_BLOCK 512 0) × (entries_in (first_new ++ second_old) ≡ refused BAD_BLOCK 512 0)

@@ -22,7 +22,6 @@ use Rattle.layout.specs.Sheet.{Part, Reference, Record, Head, Sheet, Table}
 use Rattle.layout.specs.Walk.{given, refused}
 use Rattle.layout.specs.Writing.Tables.{table, flatten_record, flatten}
 use Rattle.layout.specs.Years.{is_setting}
-use Rattle.layout.specs.declared.Found.TheVariants as Found
 use Rattle.laws.proofs.Again.{clean_again}
 use Rattle.laws.proofs.Base.Lists.{◌&◌}
 use Rattle.laws.proofs.Called.{reading-complete}
@@ -33,6 +32,7 @@ use Rattle.laws.proofs.Encoding.Tails.{clean-tails, all-clean}
 use Rattle.laws.proofs.Samples.{with, sheet, point, sheet_p, head_of}
 use Rattle.laws.proofs.Writing.Records.{NearRecord, near-fine}
 use Rattle.laws.proofs.Writing.Sizes.{record_length}
+use Rattle.std.specs.Prelude.{Ok}
 
 -- P with the mark at +30 and its one point counted by the word: "under the mark any count in the word is good"
 abbrev sheet_s : List ℕ
@@ -60,7 +60,7 @@ small : (unfolded 2004 sheet_s rooms ≡ given table_s)
     × (unfolded 1999 sheet_s rooms ≡ refused TOO_NEW 482 2004)
     × (written 1999 (head_of (0x41 ∷ [])) table_s 488 ≡ refused TOO_NEW 8 2004)
     × (found_of (asked 2017 sheet_s 0)
-    ≡ Found.Record (record {
+    ≡ Ok (record {
       place = 452;
       total = 36;
       code = 0;

@@ -11,28 +11,25 @@ use Rattle.layout.specs.Layout.Cleared.{cleared}
 use Rattle.layout.specs.Refusals.{TEXT, SUM}
 use Rattle.layout.specs.Walk.{given, refused}
 use Rattle.layout.specs.Writing.Tables.{flatten}
-use Rattle.layout.specs.declared.Headed.TheVariants as Headed
-use Rattle.layout.specs.declared.Headed.{Headed}
 use Rattle.laws.proofs.Cases.Reading.{sealed}
 use Rattle.laws.proofs.Samples.{with, sheet_q}
+use Rattle.layout.specs.declared.HeadAt.{HeadAt}
+use Rattle.layout.specs.declared.Refusal.{Refusal}
+use Rattle.std.specs.Prelude.{Result, Ok}
 
 -- the head's answer for a sheet
-abbrev head : List ℕ → Headed
+abbrev head : List ℕ → Result HeadAt Refusal
 head s = headed_of (reading 2017 s)
 
 -- the lengths of date, designation, title and second designation, and which of the four are clean
-abbrev answered : (date designation title designation2 : ℕ) → (cleanDate cleanDesignation cleanTitle cleanDesignation2 : Bool) → Headed
+abbrev answered : (date designation title designation2 : ℕ) → (cleanDate cleanDesignation cleanTitle cleanDesignation2 : Bool) → Result HeadAt Refusal
 answered date designation title designation2 cleanDate cleanDesignation cleanTitle cleanDesignation2 =
-    Headed.Head (record {
-      date = date;
-      designation = designation;
+    Ok (record {
+      date = record { length = date; clean = cleanDate };
+      designation = record { length = designation; clean = cleanDesignation };
       scale = 0;
-      title = title;
-      designation2 = designation2;
-      date_clean = cleanDate;
-      designation_clean = cleanDesignation;
-      title_clean = cleanTitle;
-      designation2_clean = cleanDesignation2;
+      title = record { length = title; clean = cleanTitle };
+      designation2 = record { length = designation2; clean = cleanDesignation2 };
     })
 
 -- Q with letters put in, and the sum to match; Q has the designations "A", and no date and no title

@@ -9,10 +9,11 @@ use lib.Dec.{eqb, ltb, leb}
 use lib.ListN.{length, get_or, length-map}
 use native.Mathlib.Omega.{arith}
 use Rattle.layout.specs.Codings.Turning.{first_of, lacks, turned}
-use Rattle.layout.specs.Refusals.{ROOM, ASK, NO_CHARACTER}
+use Rattle.layout.specs.Refusals.{ROOM, ASK, NO_CHARACTER, refusal_number}
 use Rattle.layout.specs.Shared.Carried.{label_coding}
 use Rattle.layout.specs.Walk.{Answer, given, refused}
 use Rattle.laws.proofs.Base.Walks.{given_inj}
+use Rattle.layout.specs.declared.refusals.Reason.{Reason}
 
 -- a text is given: its coding is one of the three, each of it is turned, and it fits
 pub record WasTurned (f : ℕ → ℕ) (none c : ℕ) (xs : List ℕ) (room : ℕ) (ys : List ℕ) : Type 0 where
@@ -134,7 +135,7 @@ module _ (f : ℕ → ℕ) (none : ℕ) where
           let same : first_of (lacks f none) xs ≡ i = cc in
           subst (FirstWithout f none xs) same (first-is xs (ltb-true _ _ h))
       go false true h e = absurd (let z : ◌≡◌ {A = ℕ} 0 1 = cc in omega arith)
-      go false false h e = absurd (let z : ◌≡◌ {A = ℕ} ROOM NO_CHARACTER = cc in omega arith)
+      go false false h e = absurd (let z : ◌≡◌ {A = Reason} ROOM NO_CHARACTER = cc in let y : ◌≡◌ {A = ℕ} 15 17 = ap refusal_number z in omega arith)
 
   -- With one of the three codings NO CHARACTER is given exactly at the first that has none, whatever the room.
   pub refused-first : (c : ℕ) → c ≤ 2 → (xs : List ℕ) (room i : ℕ) → (turned f none c xs room ≡ refused NO_CHARACTER i 0) ↔ FirstWithout f none xs i

@@ -9,7 +9,7 @@ use native.Mathlib.Omega.{arith}
 use Rattle.layout.specs.Bytes.{number_in}
 use Rattle.layout.specs.Fields.Descriptor
 use Rattle.layout.specs.Fields.Header as Field
-use Rattle.layout.specs.Hop.{hit, hop_checks, hop_from, start_checks, hop_walk, hop, past, passed_from, passed}
+use Rattle.layout.specs.Hop.{hit, looked_for, hop_checks, hop_from, start_checks, hop_walk, hop, past, passed_from, passed}
 use Rattle.layout.specs.Reading.Records.{Header, header_in}
 use Rattle.layout.specs.Reading.Sheets.{start}
 use Rattle.layout.specs.Walk.{ends, given, answer, always, Check, must, dated, checks, Holds}
@@ -28,7 +28,7 @@ has_header xs c = c.0
 
 -- the count of a hop that saw so many headers before, and passes l, of so many that are left
 abbrev Counted : ℕ → ℕ → List ℕ → Hop → Type 0
-Counted seen left l h = (h.looked ≡ seen + length l) × (h.looked ≡ cond h.found (h.«record» + 1) (seen + left))
+Counted seen left l h = (h.looked ≡ seen + length l) × (h.looked ≡ looked_for h.hit (seen + left))
 
 looked_from : (wanted left seen place : ℕ) (s : List ℕ) (h : Hop) → answer always (hop_from wanted left seen place s) ≡ given h
     → Counted seen left (passed_from wanted left place s) h
@@ -47,15 +47,15 @@ looked_from wanted (suc left) seen place s h e =
         → (b : Bool) → answer always (cond b (ends (hit seen place total)) (hop_from wanted left (suc seen) (place + total) s)) ≡ given h
         → Counted seen (suc left) (place ∷ cond b [] rest) h
     go total rest k true g = rw (← (given_inj g)) (refl, refl)
-    go total rest k false g = let q = k g in (omega (arith, q.0), q.1 ∙ ap (λ n. cond h.found (h.«record» + 1) n) (omega arith))
+    go total rest k false g = let q = k g in (omega (arith, q.0), q.1 ∙ ap (looked_for h.hit) (omega arith))
 
 -- The count is how many headers are passed, and that is the hit's number plus one, or the record count if there is none.
 pub looked : (wanted : ℕ) (s : List ℕ) (h : Hop) → hop wanted s ≡ given h
-    → (h.looked ≡ length (passed wanted s)) × (h.looked ≡ cond h.found (h.«record» + 1) (number_in Descriptor.count s))
+    → (h.looked ≡ length (passed wanted s)) × (h.looked ≡ looked_for h.hit (number_in Descriptor.count s))
 unfolding hop hop_walk passed
 looked wanted s h e =
     let count : ℕ = number_in Descriptor.count s in
     checks_case always 0 (start_checks s) _ h e λ c y e1.
     let q = looked_from wanted count 0 start s h e1 in
     rw (past_on 0 (start_checks s) (λ _. passed_from wanted count start s) c)
-    (omega (arith, q.0), q.1 ∙ ap (λ n. cond h.found (h.«record» + 1) n) (omega arith))
+    (omega (arith, q.0), q.1 ∙ ap (looked_for h.hit) (omega arith))

@@ -23,6 +23,7 @@ use Rattle.laws.proofs.Base.Numbers.{number_lt}
 use Rattle.laws.proofs.Base.Walks.{given_inj, cond_back, then_back}
 use Rattle.laws.proofs.Index.Blocks.{full-some, Count, Good, good_back, good_on, block-length}
 use Rattle.laws.proofs.Index.Blocks.{block-count, block-fine, block_took, block-ending, block-entries_back, block-good}
+use Rattle.layout.specs.declared.refusals.Reason.{Reason}
 
 -- a list cut at a full block
 seam : {A : Type 0} (m : ℕ) (a more : List A) → length a ≤ m → (0 < length more → length a ≡ m) → (take m (a ++ more) ≡ a) × (drop m (a ++ more) ≡ more)
@@ -229,34 +230,34 @@ bad-here kind n k xs g =
     let here : k + 0 ≡ k = omega arith in
     record { before = 0; within = omega arith; at = rw here refl; bad = rw here g; good = λ j h. absurd (omega arith) }
 
-then-refused : {A B : Type 0} (w : Answer A) (f : A → B) (number place year : ℕ) → and_then w (λ a. given (f a)) ≡ refused number place year
-    → w ≡ refused number place year
-then-refused (given a) f number place year e = absurd (let z : ◌≡◌ {A = ℕ} 0 1 = cc in omega arith)
-then-refused (refused n p y) f number place year e = cc
+then-refused : {A B : Type 0} (w : Answer A) (f : A → B) (reason : Reason) (place year : ℕ) → and_then w (λ a. given (f a)) ≡ refused reason place year
+    → w ≡ refused reason place year
+then-refused (given a) f reason place year e = absurd (let z : ◌≡◌ {A = ℕ} 0 1 = cc in omega arith)
+then-refused (refused n p y) f reason place year e = cc
 
 -- the refusal stands here, or in the blocks after this one
-blocks-refused : (kind : BlockKind) (n k : ℕ) (xs : List ℕ) (number place year : ℕ) → blocks_in kind n k xs ≡ refused number place year
-    → (number ≡ BAD_BLOCK) × (year ≡ 0) × FirstBad kind n k xs place
+blocks-refused : (kind : BlockKind) (n k : ℕ) (xs : List ℕ) (reason : Reason) (place year : ℕ) → blocks_in kind n k xs ≡ refused reason place year
+    → (reason ≡ BAD_BLOCK) × (year ≡ 0) × FirstBad kind n k xs place
 unfolding blocks_in block_in
-blocks-refused kind zero k xs number place year e = absurd (let z : ◌≡◌ {A = ℕ} 0 1 = cc in omega arith)
-blocks-refused kind (suc n) k xs number place year e =
-    by (good_block kind k xs) refl (blocks-refused kind n (suc k) (drop Block.size xs) number place year)
+blocks-refused kind zero k xs reason place year e = absurd (let z : ◌≡◌ {A = ℕ} 0 1 = cc in omega arith)
+blocks-refused kind (suc n) k xs reason place year e =
+    by (good_block kind k xs) refl (blocks-refused kind n (suc k) (drop Block.size xs) reason place year)
   where
     by : (b : Bool) → good_block kind k xs ≡ b
-        → (blocks_in kind n (suc k) (drop Block.size xs) ≡ refused number place year
-        → (number ≡ BAD_BLOCK) × (year ≡ 0) × FirstBad kind n (suc k) (drop Block.size xs) place)
-        → (number ≡ BAD_BLOCK) × (year ≡ 0) × FirstBad kind (suc n) k xs place
+        → (blocks_in kind n (suc k) (drop Block.size xs) ≡ refused reason place year
+        → (reason ≡ BAD_BLOCK) × (year ≡ 0) × FirstBad kind n (suc k) (drop Block.size xs) place)
+        → (reason ≡ BAD_BLOCK) × (year ≡ 0) × FirstBad kind (suc n) k xs place
     by false g later =
-        let r : ◌≡◌ {A = Answer (List Entry)} (refused BAD_BLOCK (Block.size * k) 0) (refused number place year) = rw g at e in
+        let r : ◌≡◌ {A = Answer (List Entry)} (refused BAD_BLOCK (Block.size * k) 0) (refused reason place year) = rw g at e in
         let is : Block.size * k ≡ place = cc in
         (cc, cc, subst (FirstBad kind (suc n) k xs) is (bad-here kind n k xs g))
     by true g later =
-        let stopped = then-refused (blocks_in kind n (suc k) (drop Block.size xs)) (λ more. block_entries kind xs ++ more) number place year (rw g at e) in
-        let (number_is, year-is, first) = later stopped in
-        (number_is, year-is, bad-later kind n k xs place g first)
+        let stopped = then-refused (blocks_in kind n (suc k) (drop Block.size xs)) (λ more. block_entries kind xs ++ more) reason place year (rw g at e) in
+        let (reason_is, year-is, first) = later stopped in
+        (reason_is, year-is, bad-later kind n k xs place g first)
 
 -- Every refusal of an index is BAD BLOCK at its first block that is not good.
-pub index_refused : (xs : List ℕ) (number place year : ℕ) → entries_in xs ≡ refused number place year
-    → (number ≡ BAD_BLOCK) × (year ≡ 0) × FirstBad (file_kind xs) (begun Block.size (length xs)) 0 xs place
+pub index_refused : (xs : List ℕ) (reason : Reason) (place year : ℕ) → entries_in xs ≡ refused reason place year
+    → (reason ≡ BAD_BLOCK) × (year ≡ 0) × FirstBad (file_kind xs) (begun Block.size (length xs)) 0 xs place
 unfolding entries_in
-index_refused xs number place year e = blocks-refused (file_kind xs) (begun Block.size (length xs)) 0 xs number place year e
+index_refused xs reason place year e = blocks-refused (file_kind xs) (begun Block.size (length xs)) 0 xs reason place year e

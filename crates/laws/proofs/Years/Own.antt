@@ -6,12 +6,13 @@ use Prim.Native.Nat.{ℕ, zero, suc, ◌+◌}
 use lib.Dec.{leb, eqb}
 use lib.ListN.{length, drop}
 use native.Mathlib.Omega.{arith}
-use Rattle.layout.specs.Refusals.{TOO_NEW}
+use Rattle.layout.specs.Refusals.{TOO_NEW, refusal_number}
 use Rattle.layout.specs.Walk.{Walk, ends, stops, meets, refused, answer, up_to, always, ◌>>=◌, ◌>>◌, Check, must, dated, checks, Reader, times, pair, filling}
 use Rattle.layout.specs.Walk.{fill, whole}
 use Rattle.layout.specs.Writing.Tables.{Taker, many}
 use Rattle.layout.specs.Sheet.{Table}
 use Rattle.laws.proofs.Base.Lists.{◌&◌}
+use Rattle.layout.specs.declared.refusals.Reason.{Reason}
 
 -- the setting that knows every feature
 abbrev pub newest_setting : ℕ
@@ -19,13 +20,13 @@ newest_setting = 2017
 
 abbrev pub Own : {A : Type 0} → Walk A → Type 0
 Own (ends a) = Unit {0}
-Own (stops n p) = eqb n TOO_NEW ≡ false
+Own (stops n p) = eqb (refusal_number n) (refusal_number TOO_NEW) ≡ false
 Own (meets p z w) = (leb z newest_setting ≡ true) × Own w
 
 -- the same of a list of checks
 abbrev pub OwnChecks : List Check → Type 0
 OwnChecks [] = Unit {0}
-OwnChecks (must t n k ∷ cs) = (eqb n TOO_NEW ≡ false) × OwnChecks cs
+OwnChecks (must t n k ∷ cs) = (eqb (refusal_number n) (refusal_number TOO_NEW) ≡ false) × OwnChecks cs
 OwnChecks (dated t z k ∷ cs) = (leb z newest_setting ≡ true) × OwnChecks cs
 
 pub own_checks : (p : ℕ) (cs : List Check) → OwnChecks cs → Own (checks p cs)
@@ -65,7 +66,7 @@ own_filling r h (suc most) p (x ∷ xs) =
 pub own_fill : {A : Type 0} (r : Reader A) → OwnReader r → (p : ℕ) (xs : List ℕ) → Own (fill r p xs)
 own_fill r h p xs = own_filling r h (length xs) p xs
 
-pub own_whole : {A : Type 0} (n : ℕ) (r : Reader A) → eqb n TOO_NEW ≡ false → OwnReader r → (p : ℕ) (xs : List ℕ) → Own (whole n r p xs)
+pub own_whole : {A : Type 0} (n : Reason) (r : Reader A) → eqb (refusal_number n) (refusal_number TOO_NEW) ≡ false → OwnReader r → (p : ℕ) (xs : List ℕ) → Own (whole n r p xs)
 own_whole n r e h p xs =
     own_bind (r p xs) _ (h p xs) (λ a. own_then (p + a.size) (must (leb (length xs) a.size) n 0 ∷ []) _ (e & tt) tt)
 
@@ -87,7 +88,7 @@ pub own_never : {A : Type 0} (w : Walk A) → Own w → (p z : ℕ) → ¬ (answ
 own_never (ends a) h p z e = let q : ◌≡◌ {A = ℕ} 0 1 = cc in omega arith
 own_never (stops n k) h p z e =
     let q : n ≡ TOO_NEW = cc in
-    let r : true ≡ false = ap (λ x. eqb x TOO_NEW) (sym q) ∙ h in
+    let r : true ≡ false = ap (λ x. eqb (refusal_number x) (refusal_number TOO_NEW)) (sym q) ∙ h in
     let u : ◌≡◌ {A = ℕ} 0 1 = cc in
     omega arith
 own_never (meets k y w) h p z e = own_never w h.1 p z (rw h.0 at e)

@@ -13,7 +13,7 @@ use Rattle.layout.specs.Years.{is_setting}
 -- an answer made from another, unless that is a refusal
 abbrev pub and_then : {A B : Type 0} → Answer A → (A → Answer B) → Answer B
 and_then (given a) f = f a
-and_then (refused number place year) f = refused number place year
+and_then (refused reason place year) f = refused reason place year
 
 -- "ASK: setting not one of nine [..]; place 0"
 abbrev pub at_setting : {A : Type 0} → ℕ → Answer A → Answer A
@@ -54,7 +54,7 @@ over l before = l ++ drop (length l) before
 
 abbrev pub lent : {A : Type 0} → (A → List ℕ) → Answer A → List ℕ → List ℕ
 lent part (given a) before = over (part a) before
-lent part (refused number place year) before = before
+lent part (refused reason place year) before = before
 
 -- a record and where it starts
 pub record Placed : Type 0 where

@@ -5,7 +5,6 @@ use Rattle.std.specs.Float.Ieee.{nan_bits, of_bits}
 use Rattle.layout.specs.Bytes.{field, number_in}
 use Rattle.layout.specs.Fields.Passport
 use Rattle.layout.specs.Sheet.{Head}
-use Rattle.layout.specs.declared.CornerBits.{CornerBits}
 use Rattle.layout.specs.declared.Corners.{Corners}
 use Rattle.layout.specs.declared.Corners.TheVariants.{Doubles, Bits}
 use Rattle.layout.specs.declared.PlaneCorners.{PlaneCorners}
@@ -15,7 +14,7 @@ abbrev pub corner_at : ℕ → List ℕ → ℕ
 corner_at n rest = number_in (Passport.in_rest (field ((Passport.corners).place + 8 * n) 8)) rest
 
 -- X and Y of the south-west, north-west, north-east and south-east corner (000, table 1)
-abbrev pub corner_bits : List ℕ → CornerBits
+abbrev pub corner_bits : List ℕ → PlaneCorners ℕ
 corner_bits rest =
     record {
       sw_x = corner_at 0 rest;
@@ -31,7 +30,7 @@ corner_bits rest =
 abbrev double : ℕ → Float
 double b = of_bits binary64 b
 
-abbrev pub doubles : CornerBits → PlaneCorners
+abbrev pub doubles : PlaneCorners ℕ → PlaneCorners Float
 doubles c =
     record {
       sw_x = double c.sw_x;
@@ -46,11 +45,11 @@ doubles c =
 
 -- each a double of the stored bits; or, where one is no number, the place of the first that is none, and all eight as stored.
 -- place is that of the first of bs
-abbrev pub corners_from : ℕ → List ℕ → CornerBits → Corners
+abbrev pub corners_from : ℕ → List ℕ → PlaneCorners ℕ → Corners
 corners_from place [] c = Doubles (doubles c)
 corners_from place (b ∷ bs) c = cond (nan_bits binary64 b) (Bits place c) (corners_from (place + 8) bs c)
 
-unfoldable pub corners_of : CornerBits → Corners
+unfoldable pub corners_of : PlaneCorners ℕ → Corners
 corners_of c =
     corners_from (Passport.corners).place
     (c.sw_x ∷ c.sw_y ∷ c.nw_x ∷ c.nw_y ∷ c.ne_x ∷ c.ne_y ∷ c.se_x ∷ c.se_y ∷ [])

@@ -12,32 +12,26 @@ use Rattle.layout.specs.Sheet.{Record, Head, Tails, Sheet, Table}
 use Rattle.layout.specs.Walk.{Answer, given, refused}
 use Rattle.layout.specs.Writing.Tables.{flatten}
 use Rattle.layout.specs.declared.BlockKind.{BlockKind}
-use Rattle.layout.specs.declared.Checked.{Checked}
-use Rattle.layout.specs.declared.Checked.TheVariants as Check
 use Rattle.layout.specs.declared.Corners.{Corners}
-use Rattle.layout.specs.declared.Corners.TheVariants as Corner
 use Rattle.layout.specs.declared.Entry.{Entry}
-use Rattle.layout.specs.declared.Found.{Found}
-use Rattle.layout.specs.declared.Found.TheVariants as Find
 use Rattle.layout.specs.declared.HeadAt.{HeadAt}
-use Rattle.layout.specs.declared.Headed.{Headed}
-use Rattle.layout.specs.declared.Headed.TheVariants as Heads
+use Rattle.layout.specs.declared.TextAt.{TextAt}
 use Rattle.layout.specs.declared.Hop.{Hop}
-use Rattle.layout.specs.declared.Hopped.{Hopped}
-use Rattle.layout.specs.declared.Hopped.TheVariants as Hops
 use Rattle.layout.specs.declared.IndexSizes.{IndexSizes}
-use Rattle.layout.specs.declared.Indexed.{Indexed}
-use Rattle.layout.specs.declared.Indexed.TheVariants as Index
 use Rattle.layout.specs.declared.RecordAt.{RecordAt}
 use Rattle.layout.specs.declared.Refusal.{Refusal}
+use Rattle.layout.specs.declared.refusals.Reason.{Reason}
 use Rattle.layout.specs.declared.Sizes.{Sizes}
-use Rattle.layout.specs.declared.UnitAnswer.{UnitAnswer}
-use Rattle.layout.specs.declared.UnitAnswer.TheVariants as Unit-of
-use Rattle.layout.specs.declared.Written.{Written}
-use Rattle.layout.specs.declared.Written.TheVariants as Write
+use Rattle.layout.specs.declared.SheetUnit.{SheetUnit}
+use Rattle.std.specs.Prelude.{Result, Ok, Err}
 
-abbrev pub refusal : ℕ → ℕ → ℕ → Refusal
-refusal number place year = record { number = number; place = place; year = year }
+abbrev pub refusal : Reason → ℕ → ℕ → Refusal
+refusal reason place year = record { reason = reason; place = place; year = year }
+
+-- an answer as code has it: what f makes of what is given, or the refusal
+abbrev pub result_of : {A B : Type 0} → (A → B) → Answer A → Result B Refusal
+result_of f (given a) = Ok (f a)
+result_of f (refused reason place year) = Err (refusal reason place year)
 
 -- what an accepted sheet has
 abbrev pub sizes_of : Sheet → Sizes
@@ -51,9 +45,8 @@ sizes_of t =
       bytes = length u.bytes;
     }
 
-unfoldable pub checked_of : Answer Sheet → Checked
-checked_of (given t) = Check.Accepted (sizes_of t)
-checked_of (refused number place year) = Check.Refused (refusal number place year)
+unfoldable pub checked_of : Answer Sheet → Result Sizes Refusal
+checked_of a = result_of sizes_of a
 
 abbrev pub record_at : Placed → RecordAt
 record_at p =
@@ -73,49 +66,41 @@ record_at p =
       points = r.first.points;
     }
 
-unfoldable pub found_of : Answer Placed → Found
-found_of (given p) = Find.Record (record_at p)
-found_of (refused number place year) = Find.Refused (refusal number place year)
+unfoldable pub found_of : Answer Placed → Result RecordAt Refusal
+found_of a = result_of record_at a
 
 -- "the text before the first zero and whether the rest was clean" (02, 6)
+abbrev pub text_with : List ℕ → List ℕ → TextAt
+text_with text tail = record { length = length text; clean = is_clean tail }
+
 abbrev pub head_at : Head → Tails → HeadAt
 head_at h tails =
     record {
-      date = length h.date;
-      designation = length h.designation;
+      date = text_with h.date tails.date;
+      designation = text_with h.designation tails.designation;
       scale = h.scale;
-      title = length h.title;
-      designation2 = length h.designation2;
-      date_clean = is_clean tails.date;
-      designation_clean = is_clean tails.designation;
-      title_clean = is_clean tails.title;
-      designation2_clean = is_clean tails.designation2;
+      title = text_with h.title tails.title;
+      designation2 = text_with h.designation2 tails.designation2;
     }
 
-unfoldable pub headed_of : Answer Sheet → Headed
-headed_of (given t) = Heads.Head (head_at t.head t.tails)
-headed_of (refused number place year) = Heads.Refused (refusal number place year)
+unfoldable pub headed_of : Answer Sheet → Result HeadAt Refusal
+headed_of a = result_of (λ t. head_at t.head t.tails) a
 
-unfoldable pub written_of : Answer (List ℕ) → Written
-written_of (given s) = Write.Length (length s)
-written_of (refused number place year) = Write.Refused (refusal number place year)
+unfoldable pub written_of : Answer (List ℕ) → Result ℕ Refusal
+written_of a = result_of length a
 
 -- the entries of an index, and the blocks in which they stand
 abbrev pub index_sizes : BlockKind → List Entry → IndexSizes
 index_sizes kind es = record { entries = length es; blocks = begun (Block.full kind) (length es) }
 
-unfoldable pub indexed_of : BlockKind → Answer (List Entry) → Indexed
-indexed_of kind (given es) = Index.Accepted (index_sizes kind es)
-indexed_of kind (refused number place year) = Index.Refused (refusal number place year)
+unfoldable pub indexed_of : BlockKind → Answer (List Entry) → Result IndexSizes Refusal
+indexed_of kind a = result_of (index_sizes kind) a
 
-unfoldable pub hopped_of : Answer Hop → Hopped
-hopped_of (given h) = Hops.Hop h
-hopped_of (refused number place year) = Hops.Refused (refusal number place year)
+unfoldable pub hopped_of : Answer Hop → Result Hop Refusal
+hopped_of a = result_of (λ h. h) a
 
-unfoldable pub unit_in : Answer Sheet → UnitAnswer
-unit_in (given t) = Unit-of.Unit (sheet_unit t.head)
-unit_in (refused number place year) = Unit-of.Refused (refusal number place year)
+unfoldable pub unit_in : Answer Sheet → Result SheetUnit Refusal
+unit_in a = result_of (λ t. sheet_unit t.head) a
 
-unfoldable pub corners_in : Answer Sheet → Corners
-corners_in (given t) = plane_corners t.head
-corners_in (refused number place year) = Corner.Refused (refusal number place year)
+unfoldable pub corners_in : Answer Sheet → Result Corners Refusal
+corners_in a = result_of (λ t. plane_corners t.head) a

@@ -4,7 +4,7 @@
 use Rattle.std.specs.Prelude.{ℕ, suc, Bool, cond, List, [], ◌∷◌, map, ◌≡◌, refl, eqb, ltb, length, get_or}
 use Rattle.layout.specs.Answers.Calls.{in_room}
 use Rattle.layout.specs.Codings.Tables.{no_character, page866, page1251, koi8r}
-use Rattle.layout.specs.Refusals.{ASK, NO_CHARACTER}
+use Rattle.layout.specs.Refusals.{ASK, NO_CHARACTER, ROOM}
 use Rattle.layout.specs.Shared.Carried.{label_coding}
 use Rattle.layout.specs.Walk.{Answer, given, refused}
 
@@ -56,9 +56,9 @@ unfolding turned first_of table_of character_of byte_of page866 page1251 koi8r
 words = (refl, refl, refl, refl, refl, refl, refl, refl)
 
 -- ASK comes first, then the first that has none, however short the output is, then ROOM; a surrogate has no byte, nor has 0xFFFF
-refusals : (to_utf16 3 (0x41 ∷ []) 0 ≡ refused 16 0 0) × (to_utf16 1 (0x41 ∷ 0x98 ∷ 0x98 ∷ []) 0 ≡ refused 17 1 0)
-    × (to_utf16 0 (0x41 ∷ 0x98 ∷ []) 1 ≡ refused 15 0 0) × (from_utf16 4294967295 (0xFFFF ∷ []) 0 ≡ refused 16 0 0)
-    × (from_utf16 1 (0xFFFF ∷ []) 1 ≡ refused 17 0 0) × (from_utf16 0 (0x41 ∷ 0x00A0 ∷ 0x2026 ∷ []) 0 ≡ refused 17 2 0)
-    × (from_utf16 2 (0x41 ∷ 0xD83D ∷ []) 0 ≡ refused 17 1 0) × (from_utf16 2 (0x41 ∷ 0x00A9 ∷ []) 1 ≡ refused 15 0 0)
+refusals : (to_utf16 3 (0x41 ∷ []) 0 ≡ refused ASK 0 0) × (to_utf16 1 (0x41 ∷ 0x98 ∷ 0x98 ∷ []) 0 ≡ refused NO_CHARACTER 1 0)
+    × (to_utf16 0 (0x41 ∷ 0x98 ∷ []) 1 ≡ refused ROOM 0 0) × (from_utf16 4294967295 (0xFFFF ∷ []) 0 ≡ refused ASK 0 0)
+    × (from_utf16 1 (0xFFFF ∷ []) 1 ≡ refused NO_CHARACTER 0 0) × (from_utf16 0 (0x41 ∷ 0x00A0 ∷ 0x2026 ∷ []) 0 ≡ refused NO_CHARACTER 2 0)
+    × (from_utf16 2 (0x41 ∷ 0xD83D ∷ []) 0 ≡ refused NO_CHARACTER 1 0) × (from_utf16 2 (0x41 ∷ 0x00A9 ∷ []) 1 ≡ refused ROOM 0 0)
 unfolding turned first_of table_of character_of byte_of page866 page1251 koi8r
 refusals = (refl, refl, refl, refl, refl, refl, refl, refl)

@@ -11,6 +11,7 @@ use Rattle.layout.specs.Shared.Carried.{allowed, rest_checks, carried_checks}
 use Rattle.layout.specs.Shared.Texts.{text_of, tail_of, text_field}
 use Rattle.layout.specs.Sheet.{Head, Tails, Sheet}
 use Rattle.layout.specs.Walk.{Walk, Check, must, checks, ◌>>=◌, ◌>>◌, ends, times, whole}
+use Rattle.layout.specs.declared.refusals.Reason.{Reason}
 
 -- where the records start: after passport and descriptor, at 452
 abbrev pub start : ℕ
@@ -29,8 +30,8 @@ unfoldable pub size_checks : List ℕ → List Check
 size_checks s = must (leb (length s) limit) TOO_LONG 0 ∷ must (leb start (length s)) SHORT 0 ∷ []
 
 -- a field that may hold one value only: "NOT SXF: an identifier differs"; "EDITION: a fixed length or the edition differs"
-abbrev pub fixed : Field → ℕ → ℕ → List ℕ → Check
-fixed f value refusal s = must (eqb (number_in f s) value) refusal f.place
+abbrev pub fixed : Field → ℕ → Reason → List ℕ → Check
+fixed f value reason s = must (eqb (number_in f s) value) reason f.place
 
 -- the passport up to its rest. "SUM: sum differs; place 12"
 unfoldable pub passport_checks : List ℕ → List Check

@@ -61,11 +61,11 @@ with place b = set (3 ∷ replicate 303 0) (place - (Passport.rest).place) b
 
 rest_cases : (checks 0 (rest_checks (with 96 3)) ≡ ends tt) × (checks 0 (rest_checks (with 96 0b10011011)) ≡ ends tt)
     -- bits 0-1 not 3, bit 2 set, bits 3-4 neither 0 nor 3, bits 5-6 not zero
-    × (checks 0 (rest_checks (with 96 0b00000010)) ≡ stops 7 96) × (checks 0 (rest_checks (with 96 0b00000111)) ≡ stops 7 96)
-    × (checks 0 (rest_checks (with 96 0b00001011)) ≡ stops 7 96) × (checks 0 (rest_checks (with 96 0b01000011)) ≡ stops 7 96)
-    × (checks 0 (rest_checks (with 97 2)) ≡ ends tt) × (checks 0 (rest_checks (with 97 3)) ≡ stops 7 97)
-    × (checks 0 (rest_checks (with 98 3)) ≡ meets 98 2006 (ends tt)) × (checks 0 (rest_checks (with 98 4)) ≡ stops 7 98)
-    × (checks 0 (rest_checks (with 99 1)) ≡ meets 99 2008 (ends tt)) × (checks 0 (rest_checks (with 99 2)) ≡ stops 7 99)
+    × (checks 0 (rest_checks (with 96 0b00000010)) ≡ stops RESERVED 96) × (checks 0 (rest_checks (with 96 0b00000111)) ≡ stops RESERVED 96)
+    × (checks 0 (rest_checks (with 96 0b00001011)) ≡ stops RESERVED 96) × (checks 0 (rest_checks (with 96 0b01000011)) ≡ stops RESERVED 96)
+    × (checks 0 (rest_checks (with 97 2)) ≡ ends tt) × (checks 0 (rest_checks (with 97 3)) ≡ stops RESERVED 97)
+    × (checks 0 (rest_checks (with 98 3)) ≡ meets 98 2006 (ends tt)) × (checks 0 (rest_checks (with 98 4)) ≡ stops RESERVED 98)
+    × (checks 0 (rest_checks (with 99 1)) ≡ meets 99 2008 (ends tt)) × (checks 0 (rest_checks (with 99 2)) ≡ stops RESERVED 99)
     -- EPSG is one feature at its first byte, whichever byte of it is not zero; so are the offsets
     × (checks 0 (rest_checks (with 103 1)) ≡ meets 100 2017 (ends tt)) × (checks 0 (rest_checks (with 104 1)) ≡ ends tt)
     × (checks 0 (rest_checks (with 391 128)) ≡ meets 384 2004 (ends tt)) × (checks 0 (rest_checks (with 399 1)) ≡ meets 392 2004 (ends tt))
@@ -74,9 +74,9 @@ unfolding rest_checks
 rest_cases = (refl, refl, refl, refl, refl, refl, refl, refl, refl, refl, refl, refl, refl, refl, refl, refl, refl)
 
 carried_cases : (checks 0 (carried_checks (0b10011111 ∷ 2 ∷ 5 ∷ 0 ∷ [])) ≡ ends tt)
-    × (checks 0 (carried_checks (0b00010011 ∷ 0 ∷ 0 ∷ 0 ∷ [])) ≡ stops 7 444) × (checks 0 (carried_checks (0b00100011 ∷ 0 ∷ 0 ∷ 0 ∷ [])) ≡ stops 7 444)
-    × (checks 0 (carried_checks (3 ∷ 3 ∷ 6 ∷ 4 ∷ [])) ≡ stops 7 445) × (checks 0 (carried_checks (3 ∷ 0 ∷ 6 ∷ 4 ∷ [])) ≡ stops 7 446)
-    × (checks 0 (carried_checks (3 ∷ 0 ∷ 0 ∷ 4 ∷ [])) ≡ stops 7 447)
+    × (checks 0 (carried_checks (0b00010011 ∷ 0 ∷ 0 ∷ 0 ∷ [])) ≡ stops RESERVED 444) × (checks 0 (carried_checks (0b00100011 ∷ 0 ∷ 0 ∷ 0 ∷ [])) ≡ stops RESERVED 444)
+    × (checks 0 (carried_checks (3 ∷ 3 ∷ 6 ∷ 4 ∷ [])) ≡ stops RESERVED 445) × (checks 0 (carried_checks (3 ∷ 0 ∷ 6 ∷ 4 ∷ [])) ≡ stops RESERVED 446)
+    × (checks 0 (carried_checks (3 ∷ 0 ∷ 0 ∷ 4 ∷ [])) ≡ stops RESERVED 447)
     -- automatic GUID, then edit date, at one place
     × (checks 0 (carried_checks (3 ∷ 0 ∷ 0 ∷ 3 ∷ [])) ≡ meets 447 2017 (meets 447 2017 (ends tt)))
 unfolding carried_checks

@@ -68,15 +68,15 @@ reference_checks place20 place21 place22 r = byte20 place20 r ++ byte21 place21 
 abbrev of : ℕ → ℕ → ℕ → Walk (Unit {0})
 of b20 b21 b22 = checks 0 (reference_checks 20 21 22 (record { byte20 = b20; byte21 = b21; byte22 = b22 }))
 
-cases : (of 5 0 0 ≡ ends tt) × (of 6 0 0 ≡ stops 7 20) × (of 32 0 0 ≡ stops 7 20) × (of 128 0 0 ≡ stops 7 20) × (of 16 0 0 ≡ meets 20 2016 (ends tt))
-    × (of 0 1 0 ≡ meets 21 2015 (ends tt)) × (of 0 2 0 ≡ ends tt) × (of 0 4 0 ≡ ends tt) × (of 0 8 0 ≡ meets 21 2008 (stops 9 21))
+cases : (of 5 0 0 ≡ ends tt) × (of 6 0 0 ≡ stops RESERVED 20) × (of 32 0 0 ≡ stops RESERVED 20) × (of 128 0 0 ≡ stops RESERVED 20) × (of 16 0 0 ≡ meets 20 2016 (ends tt))
+    × (of 0 1 0 ≡ meets 21 2015 (ends tt)) × (of 0 2 0 ≡ ends tt) × (of 0 4 0 ≡ ends tt) × (of 0 8 0 ≡ meets 21 2008 (stops NOT_CARRIED 21))
     × (of 0 16 0 ≡ meets 21 2008 (ends tt)) × (of 0 32 0 ≡ meets 21 2014 (ends tt)) × (of 0 64 0 ≡ meets 21 2014 (ends tt))
     × (of 0 128 0 ≡ meets 21 2017 (ends tt))
-    × (of 0 0 1 ≡ stops 7 22) × (of 0 0 2 ≡ ends tt) × (of 0 0 4 ≡ ends tt) × (of 0 0 8 ≡ stops 7 22) × (of 3 0 8 ≡ ends tt) × (of 5 0 8 ≡ ends tt)
-    × (of 4 0 8 ≡ stops 7 22)
-    × (of 0 0 16 ≡ stops 9 22) × (of 0 0 32 ≡ ends tt) × (of 0 0 64 ≡ meets 22 2004 (ends tt)) × (of 0 0 192 ≡ meets 22 2004 (ends tt))
+    × (of 0 0 1 ≡ stops RESERVED 22) × (of 0 0 2 ≡ ends tt) × (of 0 0 4 ≡ ends tt) × (of 0 0 8 ≡ stops RESERVED 22) × (of 3 0 8 ≡ ends tt) × (of 5 0 8 ≡ ends tt)
+    × (of 4 0 8 ≡ stops RESERVED 22)
+    × (of 0 0 16 ≡ stops NOT_CARRIED 22) × (of 0 0 32 ≡ ends tt) × (of 0 0 64 ≡ meets 22 2004 (ends tt)) × (of 0 0 192 ≡ meets 22 2004 (ends tt))
     -- byte by byte, and in one byte RESERVED, TOO NEW, NOT CARRIED
-    × (of 16 9 81 ≡ meets 20 2016 (meets 21 2015 (meets 21 2008 (stops 9 21)))) × (of 0 0 81 ≡ stops 7 22) × (of 0 0 80 ≡ meets 22 2004 (stops 9 22))
+    × (of 16 9 81 ≡ meets 20 2016 (meets 21 2015 (meets 21 2008 (stops NOT_CARRIED 21)))) × (of 0 0 81 ≡ stops RESERVED 22) × (of 0 0 80 ≡ meets 22 2004 (stops NOT_CARRIED 22))
 unfolding reference_checks byte20 byte21 byte22
 cases = (
   refl,

@@ -1,10 +1,9 @@
 -- A NaN's pattern by one comparison, in both formats: it lies above an infinity's, without the sign.
 use Prim.Native.Nat.{ℕ, ◌*◌, ◌%◌, ◌<◌, ◌≤◌}
 use borrow.Author.Tests.{lt-ltb, le-ltb}
-use lib.Dec.{T}
 use lib.Ieee.{Format, nan_bits, ones, hid, top}
 use lib.Ieee.Bits.{nan_bits_above}
-use mathlib.Core.Bool.{true, false, not}
+use mathlib.Core.Bool.{true, false}
 use mathlib.Core.Path.{◌≡◌, ◌∙◌}
 
 module _ (f : Format) (b : ℕ) where
@@ -13,7 +12,3 @@ module _ (f : Format) (b : ℕ) where
 
   pub no_nan : b % top f ≤ ones f * hid f → nan_bits f b ≡ false
   no_nan h = nan_bits_above f b ∙ le-ltb _ _ h
-
-  -- what a float made of bits asks of them
-  pub defined : nan_bits f b ≡ false → T (not (nan_bits f b))
-  defined e = rw e tt

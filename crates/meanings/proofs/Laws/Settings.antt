@@ -1,52 +1,46 @@
--- A setting that `new` makes is of the year that it was asked for, one of the nine.
+-- A setting is its year, and an answer that makes one is the year of it.
 use Prim.Native.Nat.{ℕ}
-use Rattle.layout.specs.Answers.Calls.{setting_of}
-use Rattle.layout.specs.Walk.{given, refused}
-use Rattle.layout.specs.Years.{is_setting}
+use Rattle.layout.specs.Answers.Calls.{at_setting}
+use Rattle.layout.specs.Answers.Enums.{result_of}
 use Rattle.layout.specs.Refusals.{ASK}
-use Rattle.meanings.specs.Settings.{made_of}
-use Rattle.meanings.specs.declared.setting.Made.TheVariants.{At, Refused}
-use Rattle.meanings.specs.declared.setting.Made.{Made}
+use Rattle.layout.specs.Walk.{Answer, given, refused}
+use Rattle.layout.specs.Years.{is_setting}
+use Rattle.layout.specs.declared.Refusal.{Refusal}
+use Rattle.meanings.specs.Settings.{year_in, made}
 use Rattle.meanings.specs.declared.setting.Setting.{Setting}
-use borrow.Author.Tests.{ne_eqb}
-use mathlib.Core.Bool.{Bool, true, false, cond}
-use mathlib.Core.Path.{◌≡◌, refl, sym, ◌∙◌}
-use native.Mathlib.Omega.{arith}
+use Rattle.std.specs.Prelude.{Result, Ok, Err}
+use mathlib.Core.Bool.{Bool, true, false, cond, Bool-set}
+use mathlib.Core.Path.{◌≡◌, refl, sym, ap, subst, ◌∙◌}
+use Rattle.std.proofs.Common.{rules}
 
-by_test : (test : Bool) (y : ℕ) (s : Setting) → is_setting y ≡ test → made_of (cond test (given y) (refused ASK 0 0)) ≡ At s
-    → (s.year ≡ y) × (is_setting s.year ≡ true)
-unfolding made_of
-by_test true y s t e = let same : s.year ≡ y = cc in (same, rw same t)
-by_test false y s t e = absurd (let z : ◌≡◌ {A = ℕ} 0 1 = cc in omega arith)
+same_year : (s t : Setting) → s.year ≡ t.year → s ≡ t
+same_year s t e =
+    subst (λ (y : ℕ). (h : is_setting y ≡ true) → s ≡ record { year = y; nine = h }) e
+    (λ h. ap (λ n. record { year = s.year; nine = n }) (Bool-set _ _ s.nine h)) t.nine
 
-pub made_nine : (y : ℕ) (s : Setting) → made_of (setting_of y) ≡ At s → (s.year ≡ y) × (is_setting s.year ≡ true)
-made_nine y s e = by_test (is_setting y) y s refl e
+pub same_made : (r q : Result Setting Refusal) → year_in r ≡ year_in q → r ≡ q
+same_made (Ok s) (Ok t) e = ap Ok (same_year s t (cc))
+same_made (Err s) (Err t) e = cc
+same_made (Ok s) (Err t) e = search rules
+same_made (Err s) (Ok t) e = search rules
 
--- what `new` promises of its answer
-abbrev Right : ℕ → Made → Type 0
-Right y r = (r ≡ made_of (setting_of y)) × ((s : Setting) → r ≡ At s → is_setting s.year ≡ true)
+-- At a setting an answer is asked for, since its year is one of the nine.
+pub at_nine : {A : Type 0} (s : Setting) (a : Answer A) → at_setting s.year a ≡ a
+at_nine s a = rw s.nine refl
 
-right : (y : ℕ) (r : Made) → r ≡ made_of (setting_of y) → Right y r
-right y r e = (e, λ s h. (made_nine y s (sym e ∙ h)).1)
+-- r is what making a setting of a year came to: the setting of that year,
+pub known : (y : ℕ) (r : Result Setting Refusal) (s : Setting) → year_in r ≡ made y → r ≡ Ok s → s.year ≡ y
+known y r s e f = go (is_setting y) (ap year_in (sym f) ∙ e)
+  where
+    go : (b : Bool) → Ok s.year ≡ result_of (λ x. x) (cond b (given y) (refused ASK 0 0)) → s.year ≡ y
+    go true h = cc
+    go false h = search rules
 
--- each of the nine years is answered by its own setting
-pub made : (year y : ℕ) → is_setting year ≡ true → y ≡ year → Right y (At (record { year = year }))
-unfolding made_of
-made year y s e = right y _ (rw (e, s) refl)
-
--- and no other year
-pub not_made : (y : ℕ) → (y ≡ 1999 → ⊥) → (y ≡ 2004 → ⊥) → (y ≡ 2006 → ⊥) → (y ≡ 2008 → ⊥) → (y ≡ 2012 → ⊥) → (y ≡ 2014 → ⊥)
-    → (y ≡ 2015 → ⊥) → (y ≡ 2016 → ⊥) → (y ≡ 2017 → ⊥) → Right y (Refused (record { number = 16; place = 0; year = 0 }))
-unfolding made_of
-not_made y a b c d e f g h i =
-    right y _ (rw (
-      ne_eqb y 1999 a,
-      ne_eqb y 2004 b,
-      ne_eqb y 2006 c,
-      ne_eqb y 2008 d,
-      ne_eqb y 2012 e,
-      ne_eqb y 2014 f,
-      ne_eqb y 2015 g,
-      ne_eqb y 2016 h,
-      ne_eqb y 2017 i,
-    ) refl)
+-- or a refusal, which every answer at that year is
+pub unknown : {A : Type 0} (y : ℕ) (r : Result Setting Refusal) (q : Refusal) → year_in r ≡ made y → r ≡ Err q → (a : Answer A)
+    → at_setting y a ≡ refused q.reason q.place q.year
+unknown {A} y r q e f a = go (is_setting y) (ap year_in (sym f) ∙ e)
+  where
+    go : (b : Bool) → Err q ≡ result_of (λ x. x) (cond b (given y) (refused ASK 0 0)) → cond b a (refused ASK 0 0) ≡ refused q.reason q.place q.year
+    go true h = search rules
+    go false h = cc

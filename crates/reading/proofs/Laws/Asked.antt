@@ -7,30 +7,25 @@ use Rattle.layout.specs.Answers.Units.{sheet_unit}
 use Rattle.layout.specs.Reading.Sheets.{start, sheet_walk}
 use Rattle.layout.specs.Sheet.{Sheet}
 use Rattle.layout.specs.Walk.{answer, ends, outcome, up_to}
-use Rattle.layout.specs.declared.Checked.TheVariants as Check
-use Rattle.layout.specs.declared.Checked.{Checked}
-use Rattle.layout.specs.declared.Corners.TheVariants as Corner
 use Rattle.layout.specs.declared.Corners.{Corners}
-use Rattle.layout.specs.declared.Found.TheVariants as Find
-use Rattle.layout.specs.declared.Found.{Found}
 use Rattle.layout.specs.declared.HeadAt.{HeadAt}
-use Rattle.layout.specs.declared.Headed.TheVariants as Heads
 use Rattle.layout.specs.declared.Refusal.{Refusal}
 use Rattle.layout.specs.declared.SheetUnit.{SheetUnit}
 use Rattle.layout.specs.declared.Sizes.{Sizes}
-use Rattle.layout.specs.declared.UnitAnswer.TheVariants as Unit-of
 use Rattle.reading.proofs.Laws.Seen.{Seen, refused-is}
 use Rattle.reading_head.specs.Read.{Read}
 use Rattle.reading.specs.Found.{AcceptedAt}
 use mathlib.Core.List.{List}
 use mathlib.Core.Path.{◌≡◌, refl, ap, ◌∙◌}
+use Rattle.layout.specs.declared.RecordAt.{RecordAt}
+use Rattle.std.specs.Prelude.{Result, Ok, Err}
 
 module _ (y : ℕ) (s : List ℕ) (z : Sizes) (a : Seen y s z) where
   -- x is the year that the setting answers
   pub accepted_at : (x : ℕ) → x ≡ y → AcceptedAt s x z.records
   accepted_at x o = record { sheet = a.sheet; is = rw o a.at; records = ap (λ (v : Sizes). v.records) a.sizes }
 
-  pub found_right : (x n : ℕ) (r : Found) → x ≡ y → r ≡ found_of (and_then (answer (up_to x) (sheet_walk s)) (λ t. record_of start t.records n))
+  pub found_right : (x n : ℕ) (r : Result RecordAt Refusal) → x ≡ y → r ≡ found_of (and_then (answer (up_to x) (sheet_walk s)) (λ t. record_of start t.records n))
       → r ≡ found_of (asked y s n)
   unfolding asked
   found_right x n r o h = h ∙ rw (o, a.at, a.is) refl
@@ -39,32 +34,32 @@ module _ (y : ℕ) (s : List ℕ) (z : Sizes) (a : Seen y s z) where
   read = record { sheet = a.sheet; read = a.read }
 
   pub head_right : (r : HeadAt) → ((t : Sheet) → outcome (sheet_walk s) ≡ ends t → r ≡ head_at t.head t.tails)
-      → Heads.Head r ≡ headed_of (reading y s)
+      → Ok r ≡ headed_of (reading y s)
   unfolding headed_of
-  head_right r h = rw a.is (ap Heads.Head (h a.sheet a.read))
+  head_right r h = rw a.is (ap Ok (h a.sheet a.read))
 
-  pub unit_right : (r : SheetUnit) → ((t : Sheet) → outcome (sheet_walk s) ≡ ends t → r ≡ sheet_unit t.head) → Unit-of.Unit r ≡ unit_in (reading y s)
+  pub unit_right : (r : SheetUnit) → ((t : Sheet) → outcome (sheet_walk s) ≡ ends t → r ≡ sheet_unit t.head) → Ok r ≡ unit_in (reading y s)
   unfolding unit_in
-  unit_right r h = rw a.is (ap Unit-of.Unit (h a.sheet a.read))
+  unit_right r h = rw a.is (ap Ok (h a.sheet a.read))
 
-  pub corners_right : (r : Corners) → ((t : Sheet) → outcome (sheet_walk s) ≡ ends t → r ≡ plane_corners t.head) → r ≡ corners_in (reading y s)
+  pub corners_right : (r : Corners) → ((t : Sheet) → outcome (sheet_walk s) ≡ ends t → r ≡ plane_corners t.head) → Ok r ≡ corners_in (reading y s)
   unfolding corners_in
-  corners_right r h = rw a.is (h a.sheet a.read)
+  corners_right r h = rw a.is (ap Ok (h a.sheet a.read))
 
 -- the sheet's own refusal
-module _ (y : ℕ) (s : List ℕ) (q : Refusal) (r : Checked) (e : r ≡ checked_of (reading y s)) (i : r ≡ Check.Refused q) where
-  pub found_refused : (n : ℕ) → Find.Refused q ≡ found_of (asked y s n)
+module _ (y : ℕ) (s : List ℕ) (q : Refusal) (r : Result Sizes Refusal) (e : r ≡ checked_of (reading y s)) (i : r ≡ Err q) where
+  pub found_refused : (n : ℕ) → Err q ≡ found_of (asked y s n)
   unfolding asked found_of
   found_refused n = rw (refused-is y s q r e i) refl
 
-  pub head-refused : Heads.Refused q ≡ headed_of (reading y s)
+  pub head-refused : Err q ≡ headed_of (reading y s)
   unfolding headed_of
   head-refused = rw (refused-is y s q r e i) refl
 
-  pub unit-refused : Unit-of.Refused q ≡ unit_in (reading y s)
+  pub unit-refused : Err q ≡ unit_in (reading y s)
   unfolding unit_in
   unit-refused = rw (refused-is y s q r e i) refl
 
-  pub corners-refused : Corner.Refused q ≡ corners_in (reading y s)
+  pub corners-refused : Err q ≡ corners_in (reading y s)
   unfolding corners_in
   corners-refused = rw (refused-is y s q r e i) refl

@@ -23,23 +23,27 @@ use Rattle.laws.proofs.Reading.Records.{header_in_lem}
 use Rattle.laws.proofs.Reading.Sheets.{sheet-sound}
 use Rattle.reading.specs.Found.{Hops}
 
--- one turn of the loop
-pub record Hop (left at : ℕ) (s : List ℕ) (total : ℕ) : Type 0 where
+-- one turn of the loop, after which m are left
+pub record Hop (left m at : ℕ) (s : List ℕ) (total : ℕ) : Type 0 where
   pub header : at + 32 ≤ length s
   pub within : at + total ≤ length s
-  pub hops : Hops (left - 1) (at + total) s
-  pub place : place_in (left - 1) (at + total) s ≡ place_in left at s
+  pub hops : Hops m (at + total) s
+  pub place : place_in m (at + total) s ≡ place_in left at s
+
+pub hop_start : (n m at : ℕ) (s : List ℕ) → m ≡ n → Hops n at s → Hops m at s × (place_in m at s ≡ place_in n at s)
+hop_start n m at s e h = rw e (h, refl)
 
 pub hop-header : (left at : ℕ) (s : List ℕ) → 0 < left → Hops left at s → at + 32 ≤ length s
 unfolding Hops
 hop-header zero at s h g = absurd (omega arith)
 hop-header (suc n) at s h g = g.0
 
-pub hop-turn : (left at : ℕ) (s : List ℕ) (total : ℕ) → 0 < left → Hops left at s → total ≡ number_in Field.total (drop at s) → Hop left at s total
+pub hop-turn : (left at : ℕ) (s : List ℕ) (total : ℕ) → 0 < left → Hops left at s → total ≡ number_in Field.total (drop at s)
+    → (m : ℕ) → m ≡ left - 1 → Hop left m at s total
 unfolding Hops
-hop-turn zero at s total h g is = absurd (omega arith)
-hop-turn (suc n) at s total h g is =
-    let down : suc n - 1 ≡ n = omega arith in
+hop-turn zero at s total h g is m e = absurd (omega arith)
+hop-turn (suc n) at s total h g is m e =
+    let down : m ≡ n = omega arith in
     record {
       header = g.0;
       within = subst (λ k. at + k ≤ length s) (sym is) g.1;

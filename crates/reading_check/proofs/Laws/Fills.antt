@@ -7,9 +7,7 @@ use lib.Seq.{drop-drop}
 use native.Mathlib.Nat.{add_assoc, add-zero}
 use native.Mathlib.Omega.{arith}
 use Rattle.reading_check.proofs.Laws.Shown.{next, plus, plus-plus, plus_none, shown-plus, tally-join}
-use Rattle.reading_check.specs.Tally.{none, add, tally, tally_of, counted_of, shown}
-use Rattle.reading_check.specs.declared.tally.Counted.{Counted}
-use Rattle.reading_check.specs.declared.tally.Counted.TheVariants.{Fine, Refused}
+use Rattle.reading_check.specs.Tally.{none, add, tally, tally_of, shown}
 use Rattle.reading_check.specs.declared.tally.Tally.{Tally}
 use Rattle.fields.proofs.Laws.Lists.{rest_is}
 use Rattle.layout.specs.Answers.Calls.{and_then}
@@ -19,26 +17,28 @@ use Rattle.layout.specs.Writing.Tables.{join, joined}
 use Rattle.layout.specs.declared.Refusal.{Refusal}
 use Rattle.laws.proofs.Base.Readers.{Sized, filling_fuel}
 use Rattle.laws.proofs.Base.Walks.{answer_bind}
+use Rattle.std.specs.Prelude.{Result, Ok, Err}
+use Rattle.layout.specs.Answers.Enums.{result_of}
 
 -- the pieces of all n bytes
 abbrev pub tallies : {A : Type 0} → (A → Table) → ℕ → List A → Tally
 tallies f n l = tally_of n (joined f l)
 
 module _ {A : Type 0} (f : A → Table) (r : Reader A) (y : ℕ) (s : Sized (up_to y) r) where
-  abbrev after_first : List ℕ → ℕ → Tally → Counted
+  abbrev after_first : List ℕ → ℕ → Tally → Result Tally Refusal
   after_first xs p z = plus z (shown (tallies f (length xs - z.used)) y (fill r (p + z.used) (drop z.used xs)))
 
   -- where there are bytes left, the first piece and then the rest
   fill_one : (p : ℕ) (xs : List ℕ) → 0 < length xs → shown (tallies f (length xs)) y (fill r p xs) ≡ next (shown (tally f) y (r p xs)) (after_first xs p)
   fill_one p [] h = absurd (omega arith)
   fill_one p (x ∷ xs) h =
-      ap (counted_of (tallies f (length (x ∷ xs)))) (answer_bind (up_to y) (r p (x ∷ xs)) one) ∙ go (answer (up_to y) (r p (x ∷ xs))) refl
+      ap (result_of (tallies f (length (x ∷ xs)))) (answer_bind (up_to y) (r p (x ∷ xs)) one) ∙ go (answer (up_to y) (r p (x ∷ xs))) refl
     where
       one : Piece A → Walk (List A)
       one a = filling r (length xs) (p + a.size) (drop a.size (x ∷ xs)) >>= λ more. ends (a.value ∷ more)
 
       go : (v : Answer (Piece A)) → answer (up_to y) (r p (x ∷ xs)) ≡ v
-          → counted_of (tallies f (length (x ∷ xs))) (and_then v (λ a. answer (up_to y) (one a))) ≡ next (counted_of (tally f) v) (after_first (x ∷ xs) p)
+          → result_of (tallies f (length (x ∷ xs))) (and_then v (λ a. answer (up_to y) (one a))) ≡ next (result_of (tally f) v) (after_first (x ∷ xs) p)
       go (given a) e =
           let z = s.sized p (x ∷ xs) a e in
           let l = length-drop a.size (x ∷ xs) in
@@ -48,7 +48,7 @@ module _ {A : Type 0} (f : A → Table) (r : Reader A) (y : ℕ) (s : Sized (up_
           (tally f a)
           (λ more. ap (λ k. tally_of k (join (f a.value) (joined f more))) n
           ∙ tally-join a.size (length (x ∷ xs) - a.size) (f a.value) (joined f more))
-          ∙ ap (λ t. plus (tally f a) (counted_of (tallies f (length (x ∷ xs) - a.size)) t))
+          ∙ ap (λ t. plus (tally f a) (result_of (tallies f (length (x ∷ xs) - a.size)) t))
           (filling_fuel (up_to y) r s (length xs) (length D) (p + a.size) D (omega (arith, z, l)) (omega arith))
       go (refused n q z) e = refl
 
@@ -63,20 +63,20 @@ module _ {A : Type 0} (f : A → Table) (r : Reader A) (p : ℕ) (xs : List ℕ)
       let n : length xs - 0 ≡ length xs = omega arith in
       record { eq = rw (n, add-zero p) (sym (plus_none (shown (tallies f (length xs)) y (fill r p xs)))) }
 
-  pub going_done : (acc : Tally) → Going acc → acc.used ≡ length xs → Fine acc ≡ shown (tallies f (length xs)) y (fill r p xs)
+  pub going_done : (acc : Tally) → Going acc → acc.used ≡ length xs → Ok acc ≡ shown (tallies f (length xs)) y (fill r p xs)
   going_done acc g h =
       let l : length xs ≤ acc.used = omega arith in
       let d : drop acc.used xs ≡ [] = drop_of_length-le xs l in
       let n : length xs - acc.used ≡ 0 = omega arith in
-      let e : shown (tallies f (length xs)) y (fill r p xs) ≡ plus acc (Fine none) = g.eq ∙ rw (d, n) refl in
+      let e : shown (tallies f (length xs)) y (fill r p xs) ≡ plus acc (Ok none) = g.eq ∙ rw (d, n) refl in
       sym (e ∙ simp add-zero)
 
-  module _ (s : Sized (up_to y) r) (acc : Tally) (g : Going acc) (h : acc.used < length xs) (k : Counted)
+  module _ (s : Sized (up_to y) r) (acc : Tally) (g : Going acc) (h : acc.used < length xs) (k : Result Tally Refusal)
       (means : k ≡ shown (tally f) y (r (p + acc.used) (take (length xs - acc.used) (drop acc.used xs)))) where
     abbrev left : List ℕ
     left = drop acc.used xs
 
-    abbrev after : List ℕ → ℕ → Tally → Counted
+    abbrev after : List ℕ → ℕ → Tally → Result Tally Refusal
     after ys q z = plus z (shown (tallies f (length ys - z.used)) y (fill r (q + z.used) (drop z.used ys)))
 
     here : k ≡ shown (tally f) y (r (p + acc.used) left)
@@ -98,17 +98,17 @@ module _ {A : Type 0} (f : A → Table) (r : Reader A) (p : ℕ) (xs : List ℕ)
         o ∙ ap (λ t. next t (after left (p + acc.used))) (sym here) in
         g.eq ∙ rw n (ap (plus acc) e)
 
-    pub going_stop : (q : Refusal) → k ≡ Refused q → Refused q ≡ shown (tallies f (length xs)) y (fill r p xs)
+    pub going_stop : (q : Refusal) → k ≡ Err q → Err q ≡ shown (tallies f (length xs)) y (fill r p xs)
     going_stop q e = sym (rw e at turn)
 
-    pub going_turn : (z : Tally) → k ≡ Fine z → (acc' : Tally) → acc' ≡ add acc z → Going acc'
+    pub going_turn : (z : Tally) → k ≡ Ok z → (acc' : Tally) → acc' ≡ add acc z → Going acc'
     going_turn z e acc' a = rw a (record { eq = (rw e at turn) ∙ more z })
 
     -- each turn takes a byte at least
-    pub going_less : (z : Tally) → k ≡ Fine z → 0 < z.used
+    pub going_less : (z : Tally) → k ≡ Ok z → 0 < z.used
     going_less z e = go (answer (up_to y) (r (p + acc.used) left)) refl (sym here ∙ e)
       where
-        go : (v : Answer (Piece A)) → answer (up_to y) (r (p + acc.used) left) ≡ v → counted_of (tally f) v ≡ Fine z → 0 < z.used
+        go : (v : Answer (Piece A)) → answer (up_to y) (r (p + acc.used) left) ≡ v → result_of (tally f) v ≡ Ok z → 0 < z.used
         go (given a) i j =
             let q : tally f a ≡ z = cc in
             let l : 0 < a.size = (s.sized (p + acc.used) left a i).0 in

@@ -12,13 +12,9 @@ use native.Mathlib.Omega.{arith}
 use Rattle.reading_check.proofs.Laws.Steps.{step_on, step_stop}
 use Rattle.reading_check.specs.Items.{shape_of, Shaped, shape_checks, value_checks, value_walk}
 use Rattle.reading_check.specs.Tally.{tally, shown}
-use Rattle.reading_check.specs.declared.tally.Counted.{Counted}
-use Rattle.reading_check.specs.declared.tally.Counted.TheVariants.{Fine, Refused}
 use Rattle.reading_check.specs.declared.items.Shape.{Shape}
 use Rattle.fields.proofs.Laws.Chain.{step_holds}
-use Rattle.fields.specs.Steps.{Next}
-use Rattle.fields.specs.declared.steps.Step.{Step}
-use Rattle.fields.specs.declared.steps.Step.TheVariants as Stp
+use Rattle.fields.specs.Checks.{checked}
 use Rattle.layout.specs.Answers.Enums.{refusal}
 use Rattle.layout.specs.Bytes.{number, zeros}
 use Rattle.layout.specs.Reading.Items.{item_checks, item_walk, kind_in, value_at, value_size, item_size, item_in}
@@ -31,6 +27,8 @@ use Rattle.laws.proofs.Base.Lists.{last_of}
 use Rattle.laws.proofs.Base.Readers.{Sized}
 use Rattle.laws.proofs.Base.Walks.{given_inj, checks_case, checks_append}
 use Rattle.laws.proofs.Encoding.Kinds.{good-is, closing_under}
+use Rattle.reading_check.specs.declared.tally.Tally.{Tally}
+use Rattle.std.specs.Prelude.{Result, Ok, Err}
 
 never : false ≡ true → ⊥
 never e = let z : ◌≡◌ {A = ℕ} 0 1 = cc in omega arith
@@ -89,7 +87,7 @@ module _ (y p : ℕ) (xs : List ℕ) (k : Shape) (s : Shaped xs k) (size : ℕ) 
   length-is : good_length (kind_in xs) (value_size xs) ≡ tests
   length-is = good-is (kind_in xs) (value_size xs) ∙ rw (← e, ap (λ (z : Shape). z.long) s.is) refl
 
-  pub value-bad : tests ≡ false → Refused (refusal SEMANTIC (p + 4) 0) ≡ shown (tally flatten_item) y (value_walk p xs)
+  pub value-bad : tests ≡ false → Err (refusal SEMANTIC (p + 4) 0) ≡ shown (tally flatten_item) y (value_walk p xs)
   unfolding value_walk value_checks
   value-bad h = simp (length-is, h)
 
@@ -97,7 +95,7 @@ module _ (y p : ℕ) (xs : List ℕ) (k : Shape) (s : Shaped xs k) (size : ℕ) 
     pub value-closes : k.closing ≤ size
     value-closes = rw (closing-is, e) (closing_under (kind_in xs) (number 1 (drop 3 xs)) (number 4 (drop 4 xs)) (value_size xs) refl (length-is ∙ h))
 
-    pub value-short : length xs < k.at + size → Refused (refusal LENGTH p 0) ≡ shown (tally flatten_item) y (value_walk p xs)
+    pub value-short : length xs < k.at + size → Err (refusal LENGTH p 0) ≡ shown (tally flatten_item) y (value_walk p xs)
     unfolding value_walk value_checks
     value-short l =
         let m : leb (value_at (kind_in xs) + value_size xs) (length xs) ≡ false =
@@ -115,12 +113,12 @@ module _ (y p : ℕ) (xs : List ℕ) (k : Shape) (s : Shaped xs k) (size : ℕ) 
           (omega (arith, at-is, e))))
 
       pub value_open : zeros (take k.closing (drop (k.at + size - k.closing) xs)) ≡ false
-          → Refused (refusal TEXT (p + (k.at + size - k.closing)) 0) ≡ shown (tally flatten_item) y (value_walk p xs)
+          → Err (refusal TEXT (p + (k.at + size - k.closing)) 0) ≡ shown (tally flatten_item) y (value_walk p xs)
       unfolding value_walk value_checks
       value_open z = simp (length-is, h, fits, shut, z) (rw (at-is, e, closing-is) refl)
 
       pub value-fine : zeros (take k.closing (drop (k.at + size - k.closing) xs)) ≡ true
-          → Fine (record { used = k.at + size; numbers = 4; elements = 0; bytes = size }) ≡ shown (tally flatten_item) y (value_walk p xs)
+          → Ok (record { used = k.at + size; numbers = 4; elements = 0; bytes = size }) ≡ shown (tally flatten_item) y (value_walk p xs)
       unfolding value_walk value_checks flatten_item
       value-fine z =
           let n : length (take (value_size xs) (drop (value_at (kind_in xs)) xs)) ≡ value_size xs =
@@ -128,7 +126,7 @@ module _ (y p : ℕ) (xs : List ℕ) (k : Shape) (s : Shaped xs k) (size : ℕ) 
           simp (length-is, h, fits, shut, z) (simp n (rw (at-is, e) refl))
 
 module _ (y p : ℕ) (xs : List ℕ) where
-  pub item-short : length xs < 4 → Refused (refusal LENGTH p 0) ≡ shown (tally flatten_item) y (item_walk p xs)
+  pub item-short : length xs < 4 → Err (refusal LENGTH p 0) ≡ shown (tally flatten_item) y (item_walk p xs)
   unfolding item_walk
   item-short h = simp (lt-leb 4 (length xs) h, add-zero)
 
@@ -139,15 +137,15 @@ module _ (y p : ℕ) (xs : List ℕ) where
         rw (e, le-leb 4 (length xs) l)
         (checks_append p (shape_checks (shape_of (kind_in xs) (number 1 (drop 3 xs))) (length xs)) (value_checks xs) (ends (piece (item_in xs) (item_size xs))))
 
-    module _ (r : Step) (n : Next Stp.Fine y p (shape_checks k (length xs)) r) where
-      pub item_on : r ≡ Stp.Fine → (m : Counted) → m ≡ shown (tally flatten_item) y (value_walk p xs) → m ≡ shown (tally flatten_item) y (item_walk p xs)
+    module _ (r : Result (Unit {0}) Refusal) (n : r ≡ checked y p (shape_checks k (length xs))) where
+      pub item_on : r ≡ (Ok tt) → (m : Result Tally Refusal) → m ≡ shown (tally flatten_item) y (value_walk p xs) → m ≡ shown (tally flatten_item) y (item_walk p xs)
       item_on f m g = g ∙ sym (ap (shown (tally flatten_item) y) halves ∙ step_on y (tally flatten_item) p (shape_checks k (length xs)) (value_walk p xs) r n f)
 
-      pub item-stop : (q : Refusal) → r ≡ Stp.Refused q → Refused q ≡ shown (tally flatten_item) y (item_walk p xs)
+      pub item-stop : (q : Refusal) → r ≡ Err q → Err q ≡ shown (tally flatten_item) y (item_walk p xs)
       item-stop q f = step_stop y (tally flatten_item) p (shape_checks k (length xs)) (value_walk p xs) r n q f ∙ sym (ap (shown (tally flatten_item) y) halves)
 
-      pub item_starts : r ≡ Stp.Fine → k.at ≤ length xs
-      item_starts f = leb-true k.at (length xs) (step_holds y p (shape_checks k (length xs)) r n f).1.1.0
+      pub item_starts : r ≡ (Ok tt) → k.at ≤ length xs
+      item_starts f = leb-true k.at (length xs) (step_holds y p (shape_checks k (length xs)) r n tt f).1.1.0
 
 -- an item takes four bytes at least, and no more than there are
 pub item-sized : (y : ℕ) → Sized (up_to y) item_walk

@@ -10,8 +10,6 @@ use native.Mathlib.Nat.{add-zero, mul-le-mul_left}
 use native.Mathlib.Omega.{arith}
 use Rattle.reading_check.proofs.Laws.Shown.{next, shown_bind}
 use Rattle.reading_check.specs.Tally.{tally, text_table, shown}
-use Rattle.reading_check.specs.declared.tally.Counted.{Counted}
-use Rattle.reading_check.specs.declared.tally.Counted.TheVariants.{Fine, Refused}
 use Rattle.fields.proofs.Laws.Lists.{rest_is}
 use Rattle.fields.proofs.Laws.Widths.{widths-count}
 use Rattle.fields.specs.Shapes.{shape_of, dimensions, point_of}
@@ -26,6 +24,9 @@ use Rattle.layout.specs.Writing.Tables.{flatten_part}
 use Rattle.layout.specs.Refusals.{COUNT, LENGTH}
 use Rattle.laws.proofs.Base.Numbers.{length-numbers, length-repeat}
 use Rattle.laws.proofs.Bounds.{two_bytes}
+use Rattle.reading_check.specs.declared.tally.Tally.{Tally}
+use Rattle.layout.specs.declared.Refusal.{Refusal}
+use Rattle.std.specs.Prelude.{Result, Ok, Err}
 
 elements_are : (r : Reference) (count : ℕ) (xs : List ℕ)
     → length (numbers (repeat count (widths r)) xs) ≡ count * dimensions (three_dimensions r)
@@ -46,13 +47,13 @@ module _ (y p count size : ℕ) (xs : List ℕ) (r : Reference) (s : Shape) (is 
   size_is : size ≡ count * point_size r
   size_is = e ∙ ap (λ u. count * u) (point ∙ ap point_of is)
 
-  pub part-short : length xs < size → Refused (refusal LENGTH p 0) ≡ shown (tally flatten_part) y (part_walk r count p xs)
+  pub part-short : length xs < size → Err (refusal LENGTH p 0) ≡ shown (tally flatten_part) y (part_walk r count p xs)
   unfolding part_walk
   part-short h = simp (← size_is, lt-leb size (length xs) h, add-zero)
 
   pub part_then : size ≤ length xs → (elements : ℕ) → elements ≡ count * dimensions s.three
-      → (k : Counted) → k ≡ shown (tally text_table) y (text_walk s.text (p + size) (take (length xs - size) (drop size xs)))
-      → next k (λ t. Fine (record { used = size + t.used; numbers = 2; elements = elements; bytes = t.bytes }))
+      → (k : Result Tally Refusal) → k ≡ shown (tally text_table) y (text_walk s.text (p + size) (take (length xs - size) (drop size xs)))
+      → next k (λ t. Ok (record { used = size + t.used; numbers = 2; elements = elements; bytes = t.bytes }))
       ≡ shown (tally flatten_part) y (part_walk r count p xs)
   unfolding part_walk flatten_part
   part_then l elements f k g =
@@ -61,19 +62,19 @@ module _ (y p count size : ℕ) (xs : List ℕ) (r : Reference) (s : Shape) (is 
       (λ a. rw (elements_are r count xs, f, is) refl)))
 
 module _ (y p : ℕ) (xs : List ℕ) (r : Reference) (marked : Bool) where
-  pub subobject_short : length xs < 4 → Refused (refusal LENGTH p 0) ≡ shown (tally flatten_part) y (subobject_walk r marked p xs)
+  pub subobject_short : length xs < 4 → Err (refusal LENGTH p 0) ≡ shown (tally flatten_part) y (subobject_walk r marked p xs)
   unfolding subobject_walk
   subobject_short h = simp (lt-leb 4 (length xs) h, add-zero)
 
   module _ (l : 4 ≤ length xs) (n1 n2 : ℕ) (e : n1 ≡ number 2 xs) (f : n2 ≡ number 2 (drop 2 xs)) where
     pub subobject_count : (marked || eqb n1 0) ≡ false
-        → Refused (refusal COUNT p 0) ≡ shown (tally flatten_part) y (subobject_walk r marked p xs)
+        → Err (refusal COUNT p 0) ≡ shown (tally flatten_part) y (subobject_walk r marked p xs)
     unfolding subobject_walk
     subobject_count h = simp (le-leb 4 (length xs) l, ← e, h, add-zero)
 
     pub subobject_then : (marked || eqb n1 0) ≡ true → (count : ℕ) → count ≡ n2 + 65536 * n1
-        → (k : Counted) → k ≡ shown (tally flatten_part) y (part_walk r count (p + 4) (take (length xs - 4) (drop 4 xs)))
-        → next k (λ t. Fine (record { used = 4 + t.used; numbers = t.numbers; elements = t.elements; bytes = t.bytes }))
+        → (k : Result Tally Refusal) → k ≡ shown (tally flatten_part) y (part_walk r count (p + 4) (take (length xs - 4) (drop 4 xs)))
+        → next k (λ t. Ok (record { used = 4 + t.used; numbers = t.numbers; elements = t.elements; bytes = t.bytes }))
         ≡ shown (tally flatten_part) y (subobject_walk r marked p xs)
     unfolding subobject_walk
     subobject_then h count q k g =

@@ -13,13 +13,9 @@ use Rattle.reading_check.proofs.Laws.Shown.{next, plus, shown_bind, shown-plus}
 use Rattle.reading_check.proofs.Laws.Steps.{step_on, step_stop}
 use Rattle.reading_check.specs.Records.{header_checks, Passed, rest_walk, semantics_of}
 use Rattle.reading_check.specs.Tally.{add, tally, tally_of, metric_table, shown}
-use Rattle.reading_check.specs.declared.tally.Counted.{Counted}
-use Rattle.reading_check.specs.declared.tally.Counted.TheVariants.{Fine, Refused}
 use Rattle.reading_check.specs.declared.tally.Tally.{Tally}
 use Rattle.fields.proofs.Laws.Chain.{step_holds}
-use Rattle.fields.specs.Steps.{Next}
-use Rattle.fields.specs.declared.steps.Step.{Step}
-use Rattle.fields.specs.declared.steps.Step.TheVariants as Stp
+use Rattle.fields.specs.Checks.{checked}
 use Rattle.layout.specs.Answers.Enums.{refusal}
 use Rattle.layout.specs.Bytes.{some, agree}
 use Rattle.layout.specs.Reading.Items.{item_walk}
@@ -35,6 +31,7 @@ use Rattle.layout.specs.Walk.{Walk, ends, stops, checks, ◌>>=◌, ◌>>◌, Pa
 use Rattle.layout.specs.Writing.Tables.{joined, flatten_header, flatten_part, flatten_item, flatten_record}
 use Rattle.layout.specs.declared.Refusal.{Refusal}
 use Rattle.laws.proofs.Base.Walks.{bind_assoc, checks_append}
+use Rattle.std.specs.Prelude.{Result, Ok, Err}
 
 -- the semantics
 
@@ -46,10 +43,10 @@ module _ (y p : ℕ) (xs : List ℕ) (flag t : Bool) (front : Tally) (e : t ≡ 
   agrees : t ≡ agree flag (some xs)
   agrees = e ∙ ap (agree flag) (sym (some_is xs))
 
-  pub semantics_off : t ≡ false → Refused (refusal LENGTH p 0) ≡ semantics_of flag front y p xs
+  pub semantics_off : t ≡ false → Err (refusal LENGTH p 0) ≡ semantics_of flag front y p xs
   semantics_off h = let a : agree flag (some xs) ≡ false = sym agrees ∙ h in rw a refl
 
-  pub semantics_on : t ≡ true → (k : Counted) → k ≡ shown (λ l. tally_of (length xs) (joined flatten_item l)) y (fill item_walk p xs)
+  pub semantics_on : t ≡ true → (k : Result Tally Refusal) → k ≡ shown (λ l. tally_of (length xs) (joined flatten_item l)) y (fill item_walk p xs)
       → plus front k ≡ semantics_of flag front y p xs
   semantics_on h k g = let a : agree flag (some xs) ≡ true = sym agrees ∙ h in rw (a, g) refl
 
@@ -85,7 +82,7 @@ module _ (h : Header) (place : ℕ) (ms ss : List ℕ) (y : ℕ) (e : h.total �
   abbrev parts : Walk (Pair Part (List Part))
   parts = metric_walk h.reference (is_mark h.points) (first_count h.points h.word) h.subobjects place ms
 
-  abbrev later : Tally → Counted
+  abbrev later : Tally → Result Tally Refusal
   later m = semantics_of (semantics h.reference) (add head_tally m) y (place + h.metric) ss
 
   later-is : (v : Pair Part (List Part)) (b : Bool)
@@ -93,7 +90,7 @@ module _ (h : Header) (place : ℕ) (ms ss : List ℕ) (y : ℕ) (e : h.total �
       ((cond b (ends tt) (stops LENGTH (place + h.metric + 0)) >> (fill item_walk (place + h.metric) ss >>= λ items. ends (record_from h v items)))
       >>= λ r. ends (piece r h.total))
       ≡ cond b (plus (add head_tally (tally_of (length ms) (metric_table v)))
-      (shown (λ l. tally_of (length ss) (joined flatten_item l)) y (fill item_walk (place + h.metric) ss))) (Refused (refusal LENGTH (place + h.metric) 0))
+      (shown (λ l. tally_of (length ss) (joined flatten_item l)) y (fill item_walk (place + h.metric) ss))) (Err (refusal LENGTH (place + h.metric) 0))
   later-is v true =
       ap (shown (tally flatten_record) y)
       (bind_assoc (fill item_walk (place + h.metric) ss) (λ items. ends (record_from h v items)) (λ r. ends (piece r h.total)))
@@ -109,12 +106,12 @@ module _ (h : Header) (place : ℕ) (ms ss : List ℕ) (y : ℕ) (e : h.total �
       ∙ shown_bind y (λ v. tally_of (length ms) (metric_table v)) (tally flatten_record) parts _ later
       (λ v. later-is v (agree (semantics h.reference) (some ss)))
 
-  module _ (k : Counted) (g : k ≡ shown (λ v. tally_of (length ms) (metric_table v)) y parts) where
-    body-stop : (q : Refusal) → k ≡ Refused q → Refused q ≡ shown (tally flatten_record) y all
-    body-stop q f = let i : Refused q ≡ shown (λ v. tally_of (length ms) (metric_table v)) y parts = sym f ∙ g in sym (body-shown ∙ rw (← i) refl)
+  module _ (k : Result Tally Refusal) (g : k ≡ shown (λ v. tally_of (length ms) (metric_table v)) y parts) where
+    body-stop : (q : Refusal) → k ≡ Err q → Err q ≡ shown (tally flatten_record) y all
+    body-stop q f = let i : Err q ≡ shown (λ v. tally_of (length ms) (metric_table v)) y parts = sym f ∙ g in sym (body-shown ∙ rw (← i) refl)
 
-    body_on : (m : Tally) → k ≡ Fine m → later m ≡ shown (tally flatten_record) y all
-    body_on m f = let i : Fine m ≡ shown (λ v. tally_of (length ms) (metric_table v)) y parts = sym f ∙ g in sym (body-shown ∙ rw (← i) refl)
+    body_on : (m : Tally) → k ≡ Ok m → later m ≡ shown (tally flatten_record) y all
+    body_on m f = let i : Ok m ≡ shown (λ v. tally_of (length ms) (metric_table v)) y parts = sym f ∙ g in sym (body-shown ∙ rw (← i) refl)
 
 -- the two windows of a record, as the code cuts them
 module _ (xs : List ℕ) (h : Header) (P : Passed xs h) where
@@ -146,7 +143,7 @@ module _ (xs : List ℕ) (h : Header) (P : Passed xs h) where
   lengths =
       omega (arith, ap (λ (l : List ℕ). length l) metric_cut, ap (λ (l : List ℕ). length l) semantics_cut, metric-length, semantics-length, total-is, P.metric)
 
-  module _ (y p count : ℕ) (c : count ≡ first_count h.points h.word) (k : Counted)
+  module _ (y p count : ℕ) (c : count ≡ first_count h.points h.word) (k : Result Tally Refusal)
       (means : k ≡ shown (λ v. tally_of (length (take (32 + h.metric - 32) (drop 32 xs))) (metric_table v)) y
       (metric_walk h.reference (is_mark h.points) count h.subobjects (p + 32) (take (32 + h.metric - 32) (drop 32 xs)))) where
     here : k ≡ shown (λ v. tally_of (length (metric_in (header_in xs) xs)) (metric_table v)) y
@@ -164,11 +161,11 @@ module _ (xs : List ℕ) (h : Header) (P : Passed xs h) where
         (metric_walk z.reference (is_mark z.points) (first_count z.points z.word) z.subobjects (p + 32) (metric_in (header_in xs) xs)))
         P.is a
 
-    pub rest-stop : (q : Refusal) → k ≡ Refused q → Refused q ≡ shown (tally flatten_record) y (rest_walk p xs)
+    pub rest-stop : (q : Refusal) → k ≡ Err q → Err q ≡ shown (tally flatten_record) y (rest_walk p xs)
     unfolding rest_walk
     rest-stop q f = body-stop (header_in xs) (p + 32) (metric_in (header_in xs) xs) (semantics_in (header_in xs) xs) y lengths k here q f
 
-    pub rest_on : (m : Tally) → k ≡ Fine m → (front : Tally) → front ≡ add head_tally m → (r : Counted)
+    pub rest_on : (m : Tally) → k ≡ Ok m → (front : Tally) → front ≡ add head_tally m → (r : Result Tally Refusal)
         → r ≡ semantics_of (semantics h.reference) front y (p + (32 + h.metric)) (take (h.total - (32 + h.metric)) (drop (32 + h.metric) xs))
         → r ≡ shown (tally flatten_record) y (rest_walk p xs)
     unfolding rest_walk
@@ -180,7 +177,7 @@ module _ (xs : List ℕ) (h : Header) (P : Passed xs h) where
 -- the header
 
 module _ (y p : ℕ) (xs : List ℕ) where
-  pub record_short : length xs < 32 → Refused (refusal SHORT p 0) ≡ shown (tally flatten_record) y (record_walk p xs)
+  pub record_short : length xs < 32 → Err (refusal SHORT p 0) ≡ shown (tally flatten_record) y (record_walk p xs)
   unfolding record_walk
   record_short h = simp (lt-leb 32 (length xs) h, add-zero)
 
@@ -199,19 +196,19 @@ module _ (y p : ℕ) (xs : List ℕ) where
         ∙ ap (λ w. checks p A >> w) (bind_assoc (checks p B) (λ _. checks p C) (λ _. rest_walk p xs))
         ∙ sym (checks_append p A (B ++ C) (rest_walk p xs) ∙ ap (λ w. checks p A >> w) (checks_append p B C (rest_walk p xs))))
 
-    module _ (r : Step) (n : Next Stp.Fine y p (header_checks (length xs) (header_in xs)) r) where
-      pub record_on : r ≡ Stp.Fine → (m : Counted) → m ≡ shown (tally flatten_record) y (rest_walk p xs) → m ≡ shown (tally flatten_record) y (record_walk p xs)
+    module _ (r : Result (Unit {0}) Refusal) (n : r ≡ checked y p (header_checks (length xs) (header_in xs))) where
+      pub record_on : r ≡ (Ok tt) → (m : Result Tally Refusal) → m ≡ shown (tally flatten_record) y (rest_walk p xs) → m ≡ shown (tally flatten_record) y (record_walk p xs)
       record_on f m g = g ∙ sym
           (ap (shown (tally flatten_record) y) halves ∙ step_on y (tally flatten_record) p (header_checks (length xs) h) (rest_walk p xs) r n f)
 
-      pub record_stop : (q : Refusal) → r ≡ Stp.Refused q → Refused q ≡ shown (tally flatten_record) y (record_walk p xs)
+      pub record_stop : (q : Refusal) → r ≡ Err q → Err q ≡ shown (tally flatten_record) y (record_walk p xs)
       record_stop q f = step_stop y (tally flatten_record) p (header_checks (length xs) h) (rest_walk p xs) r n q f
           ∙ sym (ap (shown (tally flatten_record) y) halves)
 
-      pub record_passed : r ≡ Stp.Fine → Passed xs (header_in xs)
+      pub record_passed : r ≡ (Ok tt) → Passed xs (header_in xs)
       unfolding length_checks
       record_passed f =
-          let a = step_holds y p (header_checks (length xs) h) r n f in
+          let a = step_holds y p (header_checks (length xs) h) r n tt f in
           let low : 32 ≤ h.total = leb-true 32 h.total a.1.0 in
           let high : h.total ≤ length xs = leb-true h.total (length xs) a.1.1.0 in
           let metric : h.metric ≤ h.total - 32 = leb-true h.metric (h.total - 32) a.1.1.1.0 in

@@ -5,8 +5,10 @@ use Prim.Native.Nat.{ℕ, ◌+◌, ◌*◌, ◌≤◌, ◌<◌}
 use lib.ListN.{length, take, drop, length-drop}
 use lib.Seq.{sets, drop-drop, length-take-le}
 use native.Mathlib.Omega.{arith}
-use Rattle.reading_fill.specs.Cursors.{moved, Room, Wrote}
-use Rattle.reading_fill.specs.declared.cursors.Cursor.{Cursor}
+use Rattle.reading_fill.specs.Cursors.{Same, Fills}
+use Rattle.reading_fill.specs.declared.filler.Filler.{Filler}
+use Rattle.fields.specs.Cursors.{moved, Room}
+use Rattle.fields.specs.declared.cursors.Cursor.{Cursor}
 use Rattle.layout.specs.Bytes.{number}
 use Rattle.layout.specs.Reading.Items.{kind_in, value_at, value_size, item_in, item_size}
 use Rattle.layout.specs.Shared.Types.{Kind, length_bytes}
@@ -70,12 +72,12 @@ module _ (xs : List ℕ) (c : Cursor) (k : Kind) (is : k ≡ kind_in (drop c.pla
           let z : c.elements ≡ c.elements + 0 = omega arith in
           rw item-table (λ j. record { place = sym sum_is j; numbers = c.numbers + 4; elements = z j; bytes = c.bytes + sym l j })
 
-      pub item-wrote : (t₀ b₀ t₁ b₁ : List ℕ) → t₁ ≡ sets t₀ c.numbers (code ∷ t ∷ scale ∷ n ∷ [])
-          → b₁ ≡ sets b₀ c.bytes (take n (drop (c.place + p) xs))
-          → Wrote c (flatten_item (item_in (drop c.place xs))) t₀ [] b₀ t₁ [] b₁
-      item-wrote t₀ b₀ t₁ b₁ ht hb = rw item-table (record { numbers = ht; elements = refl; bytes = hb })
+      pub item-wrote : (f g : Filler) → g.numbers.now ≡ sets f.numbers.now c.numbers (code ∷ t ∷ scale ∷ n ∷ []) → g.elements.now ≡ f.elements.now
+          → g.bytes.now ≡ sets f.bytes.now c.bytes (take n (drop (c.place + p) xs)) → Same f g
+          → Fills c (flatten_item (item_in (drop c.place xs))) f g
+      item-wrote f g hn he hb s = rw item-table (record { numbers = hn; elements = he; bytes = hb; same = s })
 
--- the next item's room where the pool of elements is not lent
+-- the next item's room where nothing is known of the pool of elements
 pub item_room : (xs : List ℕ) (c : Cursor) (xl tl el bl : ℕ) → Room c (item_size (drop c.place xs)) (flatten_item (item_in (drop c.place xs))) xl tl el bl
     → Room c (item_size (drop c.place xs)) (flatten_item (item_in (drop c.place xs))) xl tl c.elements bl
 unfolding flatten_item

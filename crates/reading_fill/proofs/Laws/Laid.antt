@@ -1,14 +1,16 @@
 -- A whole sheet in pass 2: what its filler asks and has done, and what the slices then hold.
 use mathlib.Core.List.{List, ◌++◌}
-use mathlib.Core.Path.{◌≡◌, ap, ◌∙◌}
+use mathlib.Core.Path.{◌≡◌, sym, ap, ◌∙◌}
 use Prim.Native.Nat.{ℕ, ◌≤◌}
 use lib.ListN.{length, drop}
 use native.Mathlib.Omega.{arith}
-use Rattle.reading_fill.specs.Cursors.{Room, Wrote}
+use Rattle.reading_fill.specs.Cursors.{Fills}
+use Rattle.reading_fill.specs.declared.filler.Filler.{Filler}
+use Rattle.fields.specs.Cursors.{Room}
 use Rattle.reading_fill.specs.Pieces.{times_in, times_size, Each}
 use Rattle.reading_fill.specs.Records.{record_in, record_size, RecordFits}
 use Rattle.reading_fill.specs.Sheets.{sheet_records, Accepted, Filled}
-use Rattle.reading_fill.specs.declared.cursors.Cursor.{Cursor}
+use Rattle.fields.specs.declared.cursors.Cursor.{Cursor}
 use Rattle.layout.specs.Bytes.{number}
 use Rattle.layout.specs.Reading.Sheets.{sheet_walk}
 use Rattle.layout.specs.Sheet.{Table}
@@ -51,11 +53,14 @@ module _ (s : List ℕ) (tl el bl : ℕ) (a : Accepted s tl el bl) where
       × (length (flatten (sheet_records s)).bytes ≤ bl)
   lists_fit = rw (← seen.records) (a.numbers, a.elements, a.bytes)
 
-pub sheet-filled : (s : List ℕ) (n : ℕ) → n ≡ number 4 (drop 440 s) → (t₀ e₀ b₀ t₁ e₁ b₁ : List ℕ)
-    → Wrote (record { place = 452; numbers = 0; elements = 0; bytes = 0 }) (joined flatten_record (times_in record_in record_size n (drop 452 s))) t₀ e₀ b₀ t₁ e₁ b₁
-    → Filled (flatten (sheet_records s)) t₀ e₀ b₀ t₁ e₁ b₁
+-- t, e and b are what the slices are left with
+pub sheet-filled : (s : List ℕ) (n : ℕ) → n ≡ number 4 (drop 440 s) → (f g : Filler)
+    → Fills (record { place = 452; numbers = 0; elements = 0; bytes = 0 }) (joined flatten_record (times_in record_in record_size n (drop 452 s))) f g
+    → (t e b : List ℕ) → g.numbers.now ≡ t → g.elements.now ≡ e → g.bytes.now ≡ b
+    → Filled (flatten (sheet_records s)) f.numbers.now f.elements.now f.bytes.now t e b
 unfolding flatten sheet_records
-sheet-filled s n e t₀ e₀ b₀ t₁ e₁ b₁ w = rw (← e) (record { numbers = w.numbers; elements = w.elements; bytes = w.bytes })
+sheet-filled s n is f g w t e b ht he hb =
+    rw (← is) (record { numbers = sym ht ∙ w.numbers; elements = sym he ∙ w.elements; bytes = sym hb ∙ w.bytes })
 
 -- so a slice that was filled holds its list, and after it what it held
 pub record Laid (t : Table) (t₀ e₀ b₀ t₁ e₁ b₁ : List ℕ) : Type 0 where

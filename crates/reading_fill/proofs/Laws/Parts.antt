@@ -8,10 +8,12 @@ use lib.Seq.{sets, drop-drop}
 use native.Mathlib.Nat.{add_assoc}
 use native.Mathlib.Omega.{arith}
 use Rattle.fields.proofs.Laws.Widths.{widths-count}
-use Rattle.reading_fill.specs.Cursors.{moved, Room, Wrote}
+use Rattle.reading_fill.specs.Cursors.{Same, Fills}
+use Rattle.reading_fill.specs.declared.filler.Filler.{Filler}
+use Rattle.fields.specs.Cursors.{moved, Room}
 use Rattle.reading_fill.specs.Parts.{text_in, text_size, part_in, part_size, count_in, subobject_in, subobject_size}
 use Rattle.fields.specs.Shapes.{dimensions, widths_of, point_of}
-use Rattle.reading_fill.specs.declared.cursors.Cursor.{Cursor}
+use Rattle.fields.specs.declared.cursors.Cursor.{Cursor}
 use Rattle.fields.specs.declared.shapes.Shape.{Shape}
 use Rattle.layout.specs.Bytes.{number, numbers, repeat}
 use Rattle.layout.specs.Sheet.{Table}
@@ -72,12 +74,12 @@ module _ (xs : List ℕ) (s : Shape) (count : ℕ) (c : Cursor) where
         en ∙ sym (part-elements ∙ ap (λ k. count * k) (widths-count s.size s.float s.three)) in
         rw (part-table, part-size, ts, ← ne, ← text-length, ep) (simp add_assoc)
 
-    pub part-wrote : (t₀ e₀ b₀ t₁ e₁ b₁ : List ℕ) → t₁ ≡ sets t₀ c.numbers (count ∷ l ∷ [])
-        → e₁ ≡ sets e₀ c.elements (numbers (repeat count (widths_of s)) (drop c.place xs))
-        → b₁ ≡ sets b₀ c.bytes (text_in s.text (drop (c.place + count * p) xs))
-        → Wrote c (flatten_part (part_in s count (drop c.place xs))) t₀ e₀ b₀ t₁ e₁ b₁
-    part-wrote t₀ e₀ b₀ t₁ e₁ b₁ ht he hb =
-        rw part-table (record { numbers = ht ∙ rw text-length refl; elements = he; bytes = hb ∙ rw ep refl })
+    pub part-wrote : (f g : Filler) → g.numbers.now ≡ sets f.numbers.now c.numbers (count ∷ l ∷ [])
+        → g.elements.now ≡ sets f.elements.now c.elements (numbers (repeat count (widths_of s)) (drop c.place xs))
+        → g.bytes.now ≡ sets f.bytes.now c.bytes (text_in s.text (drop (c.place + count * p) xs)) → Same f g
+        → Fills c (flatten_part (part_in s count (drop c.place xs))) f g
+    part-wrote f g hn he hb z =
+        rw part-table (record { numbers = hn ∙ rw text-length refl; elements = he; bytes = hb ∙ rw ep refl; same = z })
 
 -- a later part: d is the cursor past N1 and N2
 abbrev pub past : Cursor → ℕ → Cursor
@@ -119,7 +121,6 @@ module _ (xs : List ℕ) (s : Shape) (c : Cursor) where
         rw (part-is, size_is)
         (e ∙ moved-past c 4 (part_size s (n2 + 65536 * n1) (drop (past c 4).place xs)) (flatten_part (part_in s (n2 + 65536 * n1) (drop (past c 4).place xs))))
 
-    pub subobject_wrote : (t₀ e₀ b₀ t₁ e₁ b₁ : List ℕ)
-        → Wrote (past c 4) (flatten_part (part_in s (n2 + 65536 * n1) (drop (past c 4).place xs))) t₀ e₀ b₀ t₁ e₁ b₁
-        → Wrote c (flatten_part (subobject_in s (drop c.place xs))) t₀ e₀ b₀ t₁ e₁ b₁
-    subobject_wrote t₀ e₀ b₀ t₁ e₁ b₁ w = rw part-is (record { numbers = w.numbers; elements = w.elements; bytes = w.bytes })
+    pub subobject_wrote : (f g : Filler) → Fills (past c 4) (flatten_part (part_in s (n2 + 65536 * n1) (drop (past c 4).place xs))) f g
+        → Fills c (flatten_part (subobject_in s (drop c.place xs))) f g
+    subobject_wrote f g w = rw part-is (record { numbers = w.numbers; elements = w.elements; bytes = w.bytes; same = w.same })

@@ -1,15 +1,17 @@
 -- A record in pass 2, over plain variables: what the code asks and what it has done.
-use mathlib.Core.List.{List, [], ◌++◌, append_assoc, append-nil}
+use mathlib.Core.List.{List, ◌++◌, append_assoc, append-nil}
 use mathlib.Core.Path.{◌≡◌, refl, sym, ap, ap₂, ◌∙◌}
 use Prim.Native.Nat.{ℕ, ◌+◌, ◌-◌, ◌/◌, ◌≤◌}
 use lib.ListN.{length, take, drop, length-append}
-use lib.Seq.{sets, drop-drop, length-sets}
+use lib.Seq.{sets, drop-drop}
 use native.Mathlib.Omega.{arith}
-use Rattle.reading_fill.specs.Cursors.{moved, Room, Wrote}
+use Rattle.reading_fill.specs.Cursors.{HasRoom, HasFlatRoom, Same, Fills}
+use Rattle.reading_fill.specs.declared.filler.Filler.{Filler}
+use Rattle.fields.specs.Cursors.{moved, Room}
 use Rattle.reading_fill.specs.Parts.{part_in, part_size, subobject_in, subobject_size}
 use Rattle.reading_fill.specs.Pieces.{times_in, times_size, fill_in, fill_size}
 use Rattle.reading_fill.specs.Records.{shape_in, first_in, later_in, record_of, record_in, record_size, metric_size, metric_table, row_of, RecordFits, inside}
-use Rattle.reading_fill.specs.declared.cursors.Cursor.{Cursor}
+use Rattle.fields.specs.declared.cursors.Cursor.{Cursor}
 use Rattle.fields.specs.Headers.{header_of}
 use Rattle.fields.specs.declared.headers.Header as Code
 use Rattle.fields.specs.declared.shapes.Shape.{Shape}
@@ -20,20 +22,10 @@ use Rattle.layout.specs.Shared.Row.{row_width}
 use Rattle.layout.specs.Sheet.{Item, Table}
 use Rattle.layout.specs.Writing.Tables.{table, join, joined, flatten_header, flatten_part, flatten_item, flatten_record}
 use Rattle.reading_fill.proofs.Laws.Loops.{times-length}
-use Rattle.reading_fill.proofs.Laws.Moves.{moved_twice, room-first, room-second}
+use Rattle.fields.proofs.Laws.Cursors.{moved_twice, room-first, room-second}
+use Rattle.reading_fill.proofs.Laws.Moves.{same_twice, long, fills_twice}
 use Rattle.reading_fill.proofs.Laws.Items.{items_four}
 use Rattle.fields.proofs.Laws.Put.{sets_append, sets_swap}
-
--- one table after another
-pub wrote_twice : (c : Cursor) (k : ℕ) (a b : Table) (t₀ e₀ b₀ t₁ e₁ b₁ t₂ e₂ b₂ : List ℕ) → Wrote c a t₀ e₀ b₀ t₁ e₁ b₁
-    → Wrote (moved c k a) b t₁ e₁ b₁ t₂ e₂ b₂
-    → Wrote c (join a b) t₀ e₀ b₀ t₂ e₂ b₂
-wrote_twice c k a b t₀ e₀ b₀ t₁ e₁ b₁ t₂ e₂ b₂ u w =
-    record {
-      numbers = w.numbers ∙ rw u.numbers (sym (sets_append t₀ c.numbers a.numbers b.numbers));
-      elements = w.elements ∙ rw u.elements (sym (sets_append e₀ c.elements a.elements b.elements));
-      bytes = w.bytes ∙ rw u.bytes (sym (sets_append b₀ c.bytes a.bytes b.bytes));
-    }
 
 -- the metric: the first part, and later ones
 module _ (xs : List ℕ) (s : Shape) (count n : ℕ) (c : Cursor) where
@@ -79,21 +71,12 @@ module _ (xs : List ℕ) (s : Shape) (count n : ℕ) (c : Cursor) where
         let p : r ≡ moved (moved c k first) m later = rw e at q in
         p ∙ moved_twice c k m first later ∙ sym (ap₂ (λ a b. moved c a b) size_is table_is)
 
-    pub metric-wrote : (t₀ e₀ b₀ t₁ e₁ b₁ t₂ e₂ b₂ : List ℕ) → Wrote c first t₀ e₀ b₀ t₁ e₁ b₁
-        → Wrote d (joined flatten_part (times_in (subobject_in s) (subobject_size s) n (drop d.place xs))) t₁ e₁ b₁ t₂ e₂ b₂
-        → Wrote c (metric_table s count n (drop c.place xs)) t₀ e₀ b₀ t₂ e₂ b₂
-    metric-wrote t₀ e₀ b₀ t₁ e₁ b₁ t₂ e₂ b₂ u w =
-        let v : Wrote (moved c k first) later t₁ e₁ b₁ t₂ e₂ b₂ = rw e at w in
-        rw table_is (wrote_twice c k first later t₀ e₀ b₀ t₁ e₁ b₁ t₂ e₂ b₂ u v)
-
--- slices that were written are as long as before
-pub room_kept : (c : Cursor) (k : ℕ) (a : Table) (xl : ℕ) (d : Cursor) (b : Table) (t₀ e₀ b₀ t₁ e₁ b₁ : List ℕ) → Wrote d b t₀ e₀ b₀ t₁ e₁ b₁
-    → Room c k a xl (length t₀) (length e₀) (length b₀) → Room c k a xl (length t₁) (length e₁) (length b₁)
-room_kept c k a xl d b t₀ e₀ b₀ t₁ e₁ b₁ w r =
-    let lt : length t₁ ≡ length t₀ = ap length w.numbers ∙ length-sets t₀ d.numbers b.numbers in
-    let le : length e₁ ≡ length e₀ = ap length w.elements ∙ length-sets e₀ d.elements b.elements in
-    let lb : length b₁ ≡ length b₀ = ap length w.bytes ∙ length-sets b₀ d.bytes b.bytes in
-    rw (lt, le, lb) r
+    pub metric-wrote : (f g h : Filler) → Fills c first f g
+        → Fills d (joined flatten_part (times_in (subobject_in s) (subobject_size s) n (drop d.place xs))) g h
+        → Fills c (metric_table s count n (drop c.place xs)) f h
+    metric-wrote f g h u w =
+        let v : Fills (moved c k first) later g h = rw e at w in
+        rw table_is (fills_twice c k first later f g h u v)
 
 -- the bytes of the metric and those after it, of a record at a place, as the code cuts them
 pub metric_is : (xs : List ℕ) (p : ℕ) (h : Header) → take h.metric (drop (p + 32) xs) ≡ metric_in h (drop p xs)
@@ -175,8 +158,8 @@ module _ (xs : List ℕ) (c : Cursor) (fits : RecordFits (drop c.place xs)) wher
         )
 
     module _ (d : Cursor) (ed : d ≡ moved (inside past_row) ms mt) where
-      -- the room of the items, where the pool of elements is not lent
-      pub record_items : Room (inside (record { place = c.place; numbers = d.numbers; elements = d.elements; bytes = d.bytes }))
+      -- the room of the items
+      pub record_items : Room (inside d)
           (fill_size item_size (semantics_in mine (drop c.place xs)))
           (joined flatten_item (fill_in item_in item_size (semantics_in mine (drop c.place xs)))) (length (semantics_in mine (drop c.place xs))) tl
           d.elements bl
@@ -192,7 +175,7 @@ module _ (xs : List ℕ) (c : Cursor) (fits : RecordFits (drop c.place xs)) wher
           )
 
   module _ (d e : Cursor) (ed : d ≡ moved (inside past_row) ms mt)
-      (ee : e ≡ moved (inside (record { place = c.place; numbers = d.numbers; elements = d.elements; bytes = d.bytes })) is it) where
+      (ee : e ≡ moved (inside d) is it) where
     pub counted : (d.numbers ≤ e.numbers) × ((e.numbers - d.numbers) / 4 ≡ length (fill_in item_in item_size (semantics_in mine (drop c.place xs))))
     counted = let n = ap (λ (z : Cursor). z.numbers) ee in let f = items_four its in (omega (arith, n), omega (arith, n, f))
 
@@ -218,46 +201,42 @@ module _ (xs : List ℕ) (c : Cursor) (fits : RecordFits (drop c.place xs)) wher
         omega (arith, ap (λ (z : Cursor). z.bytes) ed, ap (λ (z : Cursor). z.bytes) ee, length-append mt.bytes it.bytes) in
         rw record_table (λ j. record { place = p j; numbers = n j; elements = l j; bytes = b j })
 
-    pub record_wrote : (t₀ e₀ b₀ t₁ e₁ b₁ t₂ b₂ t₃ : List ℕ) → Wrote (inside past_row) mt t₀ e₀ b₀ t₁ e₁ b₁
-        → Wrote (inside (record { place = c.place; numbers = d.numbers; elements = d.elements; bytes = d.bytes })) it t₁ [] b₁ t₂ [] b₂
-        → t₃ ≡ sets t₂ c.numbers (row_of mine ((e.numbers - d.numbers) / 4))
-        → Wrote c (flatten_record (record_in (drop c.place xs))) t₀ e₀ b₀ t₃ e₁ b₂
-    record_wrote t₀ e₀ b₀ t₁ e₁ b₁ t₂ b₂ t₃ u w h =
+    -- f, and the slices after the metric, after the items, and after the row
+    pub record_wrote : (f₀ f₁ f₂ f₃ : Filler) → Fills (inside past_row) mt f₀ f₁ → Fills (inside d) it f₁ f₂
+        → f₃.numbers.now ≡ sets f₂.numbers.now c.numbers (row_of mine ((e.numbers - d.numbers) / 4))
+        → f₃.elements.now ≡ f₂.elements.now → f₃.bytes.now ≡ f₂.bytes.now → Same f₂ f₃ → Fills c (flatten_record (record_in (drop c.place xs))) f₀ f₃
+    record_wrote f₀ f₁ f₂ f₃ u w h he hb z =
+        let v : Fills d it f₁ f₂ = record { numbers = w.numbers; elements = w.elements; bytes = w.bytes; same = w.same } in
+        let both : Fills (inside past_row) (join mt it) f₀ f₂ = fills_twice (inside past_row) ms mt it f₀ f₁ f₂ u (rw ed at v) in
         let row = row_of mine (length its) in
         let rest = mt.numbers ++ it.numbers in
-        let dn : d.numbers ≡ c.numbers + row_width + length mt.numbers = ap (λ (z : Cursor). z.numbers) ed in
-        let db : d.bytes ≡ c.bytes + length mt.bytes = ap (λ (z : Cursor). z.bytes) ed in
-        let tn : t₂ ≡ sets t₀ (c.numbers + row_width) rest =
-        w.numbers ∙ rw (u.numbers, dn) (sym (sets_append t₀ (c.numbers + row_width) mt.numbers it.numbers)) in
         let row_is : c.numbers + length row ≡ c.numbers + row_width = ap (λ k. c.numbers + k) (row-length (length its)) in
-        let all : t₃ ≡ sets t₀ c.numbers (row ++ rest) =
-        h ∙ rw (counted.1, tn)
-        (sets_swap t₀ c.numbers (c.numbers + row_width) row rest (omega (arith, row_is)) ∙ ap (λ k. sets (sets t₀ c.numbers row) k rest) (sym row_is)
-        ∙ sym (sets_append t₀ c.numbers row rest)) in
+        let all : f₃.numbers.now ≡ sets f₀.numbers.now c.numbers (row ++ rest) =
+        h ∙ rw (counted.1, both.numbers)
+        (sets_swap f₀.numbers.now c.numbers (c.numbers + row_width) row rest (omega (arith, row_is))
+        ∙ ap (λ k. sets (sets f₀.numbers.now c.numbers row) k rest) (sym row_is)
+        ∙ sym (sets_append f₀.numbers.now c.numbers row rest)) in
+        let none : mt.elements ++ it.elements ≡ mt.elements = ap (λ l. mt.elements ++ l) (items-flat its) ∙ append-nil mt.elements in
         rw record_table (record {
           numbers = all;
-          elements = u.elements;
-          bytes = w.bytes ∙ rw (u.bytes, db) (sym (sets_append b₀ c.bytes mt.bytes it.bytes));
+          elements = he ∙ both.elements ∙ rw none refl;
+          bytes = hb ∙ both.bytes;
+          same = same_twice f₀ f₂ f₃ both.same z;
         })
 
   -- the same, with the slices as the code has them after each call
-  module _ (xl : ℕ) (t₀ e₀ b₀ : List ℕ)
-      (r : Room c (record_size (drop c.place xs)) (flatten_record (record_in (drop c.place xs))) xl (length t₀) (length e₀) (length b₀)) where
-    pub items_kept : (d : Cursor) → d ≡ moved (inside past_row) ms mt → (t₁ e₁ b₁ : List ℕ) → Wrote (inside past_row) mt t₀ e₀ b₀ t₁ e₁ b₁
-        → Room (inside (record { place = c.place; numbers = d.numbers; elements = d.elements; bytes = d.bytes }))
-        (fill_size item_size (semantics_in mine (drop c.place xs)))
-        (joined flatten_item (fill_in item_in item_size (semantics_in mine (drop c.place xs)))) (length (semantics_in mine (drop c.place xs))) (length t₁)
-        d.elements (length b₁)
+  module _ (xl : ℕ) (f₀ : Filler) (r : HasRoom c (record_size (drop c.place xs)) (flatten_record (record_in (drop c.place xs))) xl f₀)
+      (f₁ : Filler) (w : Fills (inside past_row) mt f₀ f₁) where
+    pub items_kept : (d : Cursor) → d ≡ moved (inside past_row) ms mt
+        → HasFlatRoom (inside d) (fill_size item_size (semantics_in mine (drop c.place xs)))
+        (joined flatten_item (fill_in item_in item_size (semantics_in mine (drop c.place xs)))) (length (semantics_in mine (drop c.place xs))) f₁
         × (32 + mine.metric ≤ mine.total) × (c.place + mine.total ≤ xl)
-    items_kept d ed t₁ e₁ b₁ w =
-        let lt : length t₁ ≡ length t₀ = ap length w.numbers ∙ length-sets t₀ (c.numbers + row_width) mt.numbers in
-        let lb : length b₁ ≡ length b₀ = ap length w.bytes ∙ length-sets b₀ c.bytes mt.bytes in
-        rw (lt, lb) (record_items xl (length t₀) (length e₀) (length b₀) r d ed)
+    items_kept d ed =
+        let q = record_items xl _ _ _ r d ed in
+        let n = long (inside past_row) mt f₀ f₁ w in
+        rw (n.0, n.2) q
 
-    pub header-room : (t₁ e₁ b₁ : List ℕ) → Wrote (inside past_row) mt t₀ e₀ b₀ t₁ e₁ b₁ → (d : Cursor) (t₂ b₂ : List ℕ) → Wrote d it t₁ [] b₁ t₂ [] b₂
-        → c.numbers + row_width ≤ length t₂
-    header-room t₁ e₁ b₁ w d t₂ b₂ v =
-        let lt : length t₁ ≡ length t₀ = ap length w.numbers ∙ length-sets t₀ (c.numbers + row_width) mt.numbers in
-        let l2 : length t₂ ≡ length t₁ = ap length v.numbers ∙ length-sets t₁ d.numbers it.numbers in
-        let h = record_header xl (length t₀) (length e₀) (length b₀) r in
-        omega (arith, h, lt, l2)
+    pub header-room : (d : Cursor) (f₂ : Filler) → Fills d it f₁ f₂ → c.numbers + row_width ≤ length f₂.numbers.now
+    header-room d f₂ v =
+        let h = record_header xl _ _ _ r in
+        omega (arith, h, (long (inside past_row) mt f₀ f₁ w).0, (long d it f₁ f₂ v).0)

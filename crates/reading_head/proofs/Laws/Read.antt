@@ -4,7 +4,7 @@ use mathlib.Core.Path.{◌≡◌}
 use Prim.Native.Nat.{ℕ, ◌≤◌}
 use lib.ListN.{length}
 use Rattle.fields.specs.Texts.{text_at}
-use Rattle.fields.specs.declared.texts.TextAt.{TextAt}
+use Rattle.layout.specs.declared.TextAt.{TextAt}
 use Rattle.layout.specs.Answers.Enums.{head_at}
 use Rattle.layout.specs.Bytes.{number_in, bytes_in}
 use Rattle.layout.specs.Fields.Descriptor
@@ -31,15 +31,5 @@ read-tails s t e = (sheet-ends always s t ((outcome-is (sheet_walk s) t).0 e)).2
 pub head-answered : (s : List ℕ) (t : Sheet) → outcome (sheet_walk s) ≡ ends t → (date designation title designation2 : TextAt) (scale : ℕ)
     → date ≡ text_at (bytes_in Passport.date s) → designation ≡ text_at (bytes_in Passport.designation s) → title ≡ text_at (bytes_in Passport.title s)
     → designation2 ≡ text_at (bytes_in Descriptor.designation s) → scale ≡ number_in Passport.scale s
-    → record {
-      date = date.length;
-      designation = designation.length;
-      scale = scale;
-      title = title.length;
-      designation2 = designation2.length;
-      date_clean = date.clean;
-      designation_clean = designation.clean;
-      title_clean = title.clean;
-      designation2_clean = designation2.clean;
-    } ≡ head_at t.head t.tails
+    → record { date = date; designation = designation; scale = scale; title = title; designation2 = designation2 } ≡ head_at t.head t.tails
 head-answered s t e date designation title designation2 scale d g k m n = rw (read_head s t e, read-tails s t e, d, g, k, m, n)

@@ -1,23 +1,23 @@
 -- The floats of an element and of an item's value are numbers, so that their bits are defined.
-use Rattle.std.proofs.Common.{◌≡◌, ℕ, zero, suc, ◌+◌, ◌*◌, ◌^◌, ◌<◌, Bool, true, false, cond, not, ◌&&◌, T, ltb, ℤ, pos, negsuc, sym, refl, ap, ◌∙◌, subst, w64, to_z, of_z}
-use Rattle.layout.specs.Answers.Structs.{number_bits}
+use Rattle.std.proofs.Common.{◌≡◌, ℕ, zero, suc, ◌+◌, ◌*◌, ◌^◌, Bool, true, false, cond, not, ◌&&◌, T, ltb, ℤ, pos, negsuc, sym, refl, ◌∙◌, subst}
 use Rattle.layout.specs.Answers.Units.{number_of}
 use Rattle.layout.specs.Answers.Values.{double_of, value_in, semantic_value}
 use Rattle.layout.specs.Shared.Types.{Kind, narrow, wide, long, integer, double, unknown, kind_of, good_scale}
 use Rattle.layout.specs.Sheet.{Item}
 use Rattle.layout.specs.declared.Decimal.{Decimal}
 use Rattle.layout.specs.declared.Number.TheVariants as Is
-use Rattle.layout.specs.declared.Number.{Number}
 use Rattle.layout.specs.declared.Refusal.{Refusal}
 use Rattle.layout.specs.declared.SemanticValue.TheVariants as Value
+use Rattle.layout.specs.declared.SemanticValue.{SemanticValue}
+use Rattle.layout.specs.Bytes.{number}
+use Rattle.std.specs.Prelude.{Result, Ok, Err}
+use native.Mathlib.Omega.{arith}
 use Rattle.layout.specs.declared.Stored.TheVariants as As
 use Rattle.layout.specs.declared.Stored.{Stored}
-use Rattle.meanings.proofs.Laws.Signed.{whole}
 use Rattle.sxf.specs.Doubles.{IsNumber, DefinedNumber, DefinedValue}
 use lib.Ieee.Bits.{nan_bits_is}
 use lib.Ieee.Fits.{and_i, fits_widens}
-use lib.Ieee.{Float, Format, binary32, binary64, prec, emax, low, inf, fits, is_nan, nan_bits, of_bits, to_bits, odd, units, round, of_int}
-use lib.Signed.{mag}
+use lib.Ieee.{Float, Format, binary32, binary64, prec, emax, low, inf, fits, is_nan, nan_bits, of_bits, odd, units, round, of_int}
 
 -- what is made of bits that are no NaN's
 pub is_number : (f : Format) (b : ℕ) → nan_bits f b ≡ false → IsNumber (of_bits f b)
@@ -48,11 +48,6 @@ unfolding of_int
 whole-number (pos n) = round_number binary64 false n 1
 whole-number (negsuc n) = round_number binary64 true (suc n) 1
 
--- the bits of an integer's double, which is handed on as a signed number of 64 bits
-pub whole-bits : (n : Number) (z : ℤ) (x : Float) → n ≡ Is.Whole z → mag z < 2 ^ 63 → x ≡ of_int binary64 (to_z w64 (of_z w64 z))
-    → to_bits binary64 x ≡ number_bits n
-whole-bits n z x e h g = ap (to_bits binary64) (g ∙ ap (of_int binary64) (whole h refl)) ∙ sym (ap number_bits e)
-
 -- a single that is a number is a double that is one
 pub widened : (x : Float) → T (fits binary32 x) → IsNumber x → T (fits binary64 x && not (is_nan x))
 widened x h k = and_i (fits binary64 x) (not (is_nan x)) (fits_widens x h) k
@@ -80,20 +75,27 @@ unfolding DefinedValue
 value_tested true b e = tt
 value_tested false b e = is_number binary64 b e
 
-scale_tested : (t : Bool) (d : Decimal) (r : Refusal) → DefinedValue (cond t (Value.Number d) (Value.Refused r))
+-- what holds of what is given holds of what the answer has
+pub of_given : {A : Type 0} (P : A → Type 0) (a x : A) → P a → ◌≡◌ {A = Result A Refusal} (Ok a) (Ok x) → P x
+of_given P a x h e = let z : a ≡ x = cc in subst P z h
+
+pub of_refused : {A : Type 0} (P : A → Type 0) (r : Refusal) (x : A) → ◌≡◌ {A = Result A Refusal} (Err r) (Ok x) → P x
+of_refused P r x e = let z : ◌≡◌ {A = ℕ} 0 1 = cc in absurd (omega arith)
+
+scale_tested : (t : Bool) (d : Decimal) (r : Refusal) (x : SemanticValue) → cond t (Ok (Value.Number d)) (Err r) ≡ Ok x → DefinedValue x
 unfolding DefinedValue
-scale_tested true d r = tt
-scale_tested false d r = tt
+scale_tested true d r x e = of_given DefinedValue (Value.Number d) x tt e
+scale_tested false d r x e = of_refused DefinedValue r x e
 
-by_kind : (k : Kind) (i : Item) → DefinedValue (value_in k i)
+by_kind : (k : Kind) (i : Item) (x : SemanticValue) → value_in k i ≡ Ok x → DefinedValue x
 unfolding DefinedValue double_of
-by_kind narrow i = tt
-by_kind wide i = tt
-by_kind long i = tt
-by_kind (integer n) i = scale_tested (good_scale (integer n) i.scale) _ _
-by_kind double i = value_tested (nan_bits binary64 _) _ refl
-by_kind unknown i = tt
+by_kind narrow i x e = of_given DefinedValue (Value.Other i.type) x tt e
+by_kind wide i x e = of_given DefinedValue (Value.Other i.type) x tt e
+by_kind long i x e = of_given DefinedValue (Value.Other i.type) x tt e
+by_kind (integer n) i x e = scale_tested (good_scale (integer n) i.scale) _ _ x e
+by_kind double i x e = of_given DefinedValue (double_of (number 8 i.value)) x (value_tested (nan_bits binary64 (number 8 i.value)) _ refl) e
+by_kind unknown i x e = of_refused DefinedValue _ x e
 
-pub value_defined : (i : Item) → DefinedValue (semantic_value i)
+pub value_defined : (i : Item) (x : SemanticValue) → semantic_value i ≡ Ok x → DefinedValue x
 unfolding semantic_value
 value_defined i = by_kind (kind_of i.type) i

@@ -22,44 +22,39 @@ use Rattle.layout.specs.Writing.Sheets.{table_walk}
 use Rattle.layout.specs.Writing.Tables.{flatten}
 use Rattle.layout.specs.Years.{is_setting}
 use Rattle.layout.specs.declared.Refusal.{Refusal}
-use Rattle.layout.specs.declared.Written.TheVariants as Write
-use Rattle.layout.specs.declared.Written.{Written}
 use Rattle.laws.proofs.Writing.Limits.{all_near}
 use Rattle.laws.proofs.Writing.Sheets.{Typed, table-sound}
 use Rattle.laws.proofs.Writing.Sizes.{encode-length}
-use Rattle.writing_check.specs.declared.tables.Rows.TheVariants as Are
-use Rattle.writing_check.specs.declared.tables.Rows.{Rows}
 use Rattle.writing_check.specs.declared.tables.Totals.{Totals}
-use Rattle.meanings.proofs.Laws.Settings.{made_nine}
-use Rattle.meanings.specs.Settings.{made_of}
-use Rattle.meanings.specs.declared.setting.Made.TheVariants.{At, Refused}
-use Rattle.meanings.specs.declared.setting.Made.{Made}
+use Rattle.meanings.proofs.Laws.Settings.{at_nine, unknown}
+use Rattle.meanings.specs.Settings.{year_in, made}
 use Rattle.meanings.specs.declared.setting.Setting.{Setting}
 use Rattle.writing.specs.Ready.{totals_of, measured_of, Ready, written_at}
 use Rattle.layout.specs.Answers.Lent.{the_sheet}
 use Rattle.layout.specs.Refusals.{ASK, ROOM}
+use Rattle.std.specs.Prelude.{Result, Ok, Err}
 
 -- r answers a, and out is what the slice o then holds
-abbrev pub Right : Answer (List ℕ) → (o out : List ℕ) → Written → Type 0
+abbrev pub Right : Answer (List ℕ) → (o out : List ℕ) → Result ℕ Refusal → Type 0
 Right a o out r = (r ≡ written_of a) × (out ≡ lent the_sheet a o)
 
-measured-given : (v : Answer Sheet) (z : Totals) → measured_of v ≡ Are.Fine z → (u : Sheet) × (v ≡ given u) × (z ≡ totals_of u)
+measured-given : (v : Answer Sheet) (z : Totals) → measured_of v ≡ Ok z → (u : Sheet) × (v ≡ given u) × (z ≡ totals_of u)
 measured-given (given u) z e = (u, refl, cc)
 measured-given (refused n p y) z e = let x : ◌≡◌ {A = ℕ} 0 1 = cc in absurd (omega arith)
 
-measured-refused : (v : Answer Sheet) (q : Refusal) → measured_of v ≡ Are.Refused q → v ≡ refused_by q
+measured-refused : (v : Answer Sheet) (q : Refusal) → measured_of v ≡ Err q → v ≡ refused_by q
 measured-refused (given u) q e = let x : ◌≡◌ {A = ℕ} 0 1 = cc in absurd (omega arith)
 measured-refused (refused n p y) q e = let i : refusal n p y ≡ q = cc in rw (← i) refl
 
-module _ (y : ℕ) (h : Head) (t : Table) (o : List ℕ) (v : Rows) (means : v ≡ measured_of (answer (up_to y) (table_walk h t))) where
+module _ (y : ℕ) (h : Head) (t : Table) (o : List ℕ) (v : Result Totals Refusal) (means : v ≡ measured_of (answer (up_to y) (table_walk h t))) where
   abbrev all : Answer Sheet
   all = answer (up_to y) (table_walk h t)
 
-  pub refused_right : (q : Refusal) → v ≡ Are.Refused q → Right (written_at y h t (length o)) o o (Write.Refused q)
+  pub refused_right : (q : Refusal) → v ≡ Err q → Right (written_at y h t (length o)) o o (Err q)
   unfolding written_of
   refused_right q e = rw (measured-refused all q (sym means ∙ e)) (refl, refl)
 
-  module _ (typed : Typed h) (bs : Bytes t.bytes) (z : Totals) (e : v ≡ Are.Fine z) where
+  module _ (typed : Typed h) (bs : Bytes t.bytes) (z : Totals) (e : v ≡ Ok z) where
     found : (u : Sheet) × (all ≡ given u) × (z ≡ totals_of u)
     found = measured-given all z (sym means ∙ e)
 
@@ -88,34 +83,25 @@ module _ (y : ℕ) (h : Head) (t : Table) (o : List ℕ) (v : Rows) (means : v �
       room = omega (arith, long, room);
     }
 
-    pub short_right : length o < 452 + z.length → Right (written_at y h t (length o)) o o (Write.Refused (refusal ROOM 0 0))
+    pub short_right : length o < 452 + z.length → Right (written_at y h t (length o)) o o (Err (refusal ROOM 0 0))
     unfolding written_of
     short_right less = rw (found.1, lt-leb (length (encode u)) (length o) (omega (arith, long, less))) (refl, refl)
 
     pub written_right : (out : List ℕ) → 452 + z.length ≤ length o
         → ((w : Sheet) → Fine w → AllClean w.tails → w.head ≡ h → flatten w.records ≡ t → out ≡ sets o 0 (encode w))
-        → Right (written_at y h t (length o)) o out (Write.Length (452 + z.length))
+        → Right (written_at y h t (length o)) o out (Ok (452 + z.length))
     unfolding written_of
     written_right out room holds =
         let laid = holds u sound.0 sound.1 sound.2 sound.3 ∙ front_laid (encode u) o (omega (arith, long, room)) in
-        rw (found.1, le-leb (length (encode u)) (length o) (omega (arith, long, room))) (ap Write.Length (sym long), laid)
+        rw (found.1, le-leb (length (encode u)) (length o) (omega (arith, long, room))) (ap Ok (sym long), laid)
 
--- at a setting that was made anew, or that is none of the nine
-module _ (y x : ℕ) (h : Head) (t : Table) (o : List ℕ) (m : Made) (same : x ≡ y) (made : m ≡ made_of (setting_of x)) where
-  pub at-known : (k : Setting) (z : ℕ) (out : List ℕ) (r : Written) → m ≡ At k → z ≡ k.year → Right (written_at z h t (length o)) o out r
-      → Right (written y h t (length o)) o out r
-  unfolding written
-  at-known k z out r a e right =
-      let n = made_nine y k (sym (made ∙ ap (λ w. made_of (setting_of w)) same) ∙ a) in
-      let year : z ≡ y = e ∙ n.0 in
-      let nine : is_setting y ≡ true = rw n.0 at n.1 in
-      rw nine (subst (λ w. Right (written_at w h t (length o)) o out r) year right)
+-- at a setting
+pub at_setting : (k : Setting) (h : Head) (t : Table) (room : ℕ) → written k.year h t room ≡ written_at k.year h t room
+unfolding written
+at_setting k h t room = at_nine k (written_at k.year h t room)
 
-  by_test : (test : Bool) (q : Refusal) → is_setting y ≡ test → Refused q ≡ made_of (cond test (given y) (refused ASK 0 0))
-      → Right (written y h t (length o)) o o (Write.Refused q)
-  unfolding written written_of made_of
-  by_test true q e f = absurd (let w : ◌≡◌ {A = ℕ} 0 1 = cc in omega arith)
-  by_test false q e f = let q-is : q ≡ refusal ASK 0 0 = cc in rw (q-is, e) (refl, refl)
-
-  pub at-unknown : (q : Refusal) → m ≡ Refused q → Right (written y h t (length o)) o o (Write.Refused q)
-  at-unknown q a = by_test (is_setting y) q refl (sym a ∙ made ∙ ap (λ w. made_of (setting_of w)) same)
+-- at a year that is none
+pub not_written : (y : ℕ) (m : Result Setting Refusal) (q : Refusal) → year_in m ≡ made y → m ≡ Err q → (h : Head) (t : Table) (o : List ℕ)
+    → Right (written y h t (length o)) o o (Err q)
+unfolding written written_of
+not_written y m q e f h t o = rw (unknown y m q e f (written_at y h t (length o))) (refl, refl)

@@ -8,9 +8,7 @@ use lib.Dec.{leb}
 use lib.ListN.{length}
 use native.Mathlib.Omega.{arith}
 use Rattle.fields.proofs.Laws.Chain.{refused_by, step_holds, step_on, step_stop}
-use Rattle.fields.specs.Steps.{Next}
-use Rattle.fields.specs.declared.steps.Step.TheVariants as Stp
-use Rattle.fields.specs.declared.steps.Step.{Step}
+use Rattle.fields.specs.Checks.{checked}
 use Rattle.layout.specs.Answers.Lent.{head_of}
 use Rattle.writing_head.specs.Heads.{head_rules}
 use Rattle.layout.specs.Answers.Enums.{refusal}
@@ -39,10 +37,14 @@ use Rattle.laws.proofs.Writing.Sizes.{encode-length}
 use Rattle.writing_check.proofs.Laws.Moves.{capped_back}
 use Rattle.writing_check.specs.Places.{capped}
 use Rattle.writing_check.specs.Tables.{rows_of}
-use Rattle.writing_check.specs.declared.tables.Rows.TheVariants as Are
-use Rattle.writing_check.specs.declared.tables.Rows.{Rows}
 use Rattle.writing_check.specs.declared.tables.Totals.{Totals}
 use Rattle.writing.specs.Ready.{totals_of, measured_of}
+use Rattle.std.specs.Prelude.{Result, Ok, Err}
+use Rattle.laws.proofs.Base.Numbers.{all-bytes}
+use Rattle.writing_check.specs.Places.{lists}
+use Rattle.writing_check.specs.declared.record_table.RecordTable.{RecordTable}
+use Rattle.writing_head.specs.Heads.{head_in}
+use Rattle.writing_head.specs.declared.texts.HeadTexts.{HeadTexts}
 
 holds-both : (cs ds : List Check) → Holds (cs ++ ds) → Holds cs × Holds ds
 holds-both [] ds e = (tt, e)
@@ -74,12 +76,12 @@ capped-low n = go (leb n limit) refl
     go true e = omega arith
     go false e = omega (arith, leb-false n limit e)
 
-rows_given : (v : Answer (List Record)) (z : Totals) → rows_of v ≡ Are.Fine z
+rows_given : (v : Answer (List Record)) (z : Totals) → rows_of v ≡ Ok z
     → (l : List Record) × (v ≡ given l) × (z ≡ record { length = capped (sum_by record_bytes l); records = length l })
 rows_given (given l) z e = (l, refl, cc)
 rows_given (refused n p y) z e = let x : ◌≡◌ {A = ℕ} 0 1 = cc in absurd (omega arith)
 
-rows_refused : (v : Answer (List Record)) (q : Refusal) → rows_of v ≡ Are.Refused q → v ≡ refused_by q
+rows_refused : (v : Answer (List Record)) (q : Refusal) → rows_of v ≡ Err q → v ≡ refused_by q
 rows_refused (given l) q e = let x : ◌≡◌ {A = ℕ} 0 1 = cc in absurd (omega arith)
 rows_refused (refused n p y) q e = let i : refusal n p y ≡ q = cc in rw (← i) refl
 
@@ -95,34 +97,34 @@ head-fine h typed e =
     let c = holds-both C D b.1 in
     head_back h typed (a.0, b.0, c.0, c.1)
 
-module _ (y : ℕ) (h : Head) (t : Table) (r : Step) (n : Next Stp.Fine y 0 (head_rules h) r) where
+module _ (y : ℕ) (h : Head) (t : Table) (r : Result (Unit {0}) Refusal) (n : r ≡ checked y 0 (head_rules h)) where
   abbrev all : Answer Sheet
   all = answer (up_to y) (table_walk h t)
 
-  pub head-stops : (q : Refusal) → r ≡ Stp.Refused q → Are.Refused q ≡ measured_of all
+  pub head-stops : (q : Refusal) → r ≡ Err q → Err q ≡ measured_of all
   head-stops q e =
       sym (ap measured_of (ap (answer (up_to y)) (table_walk_lem h t) ∙ step_stop y 0 (head_rules h) r n (rows_walk t >>= limited h) q e))
 
-  module _ (fine : r ≡ Stp.Fine) (v : Rows) (rows : v ≡ rows_of (answer (up_to y) (rows_walk t))) where
+  module _ (fine : r ≡ Ok tt) (v : Result Totals Refusal) (rows : v ≡ rows_of (answer (up_to y) (rows_walk t))) where
     on : all ≡ answer (up_to y) (rows_walk t >>= limited h)
-    on = ap (answer (up_to y)) (table_walk_lem h t) ∙ step_on y 0 (head_rules h) r n (rows_walk t >>= limited h) fine
+    on = ap (answer (up_to y)) (table_walk_lem h t) ∙ step_on y 0 (head_rules h) r n (rows_walk t >>= limited h) tt fine
 
-    pub rows_stop : (q : Refusal) → v ≡ Are.Refused q → Are.Refused q ≡ measured_of all
+    pub rows_stop : (q : Refusal) → v ≡ Err q → Err q ≡ measured_of all
     rows_stop q e =
         let w = rows_refused (answer (up_to y) (rows_walk t)) q (sym rows ∙ e) in
         sym (ap measured_of (on ∙ bind_refused (up_to y) (rows_walk t) (limited h) w))
 
-    module _ (typed : Typed h) (bs : Bytes t.bytes) (z : Totals) (e : v ≡ Are.Fine z) where
+    module _ (typed : Typed h) (bs : Bytes t.bytes) (z : Totals) (e : v ≡ Ok z) where
       -- the records, and how long their sheet is
       found : (l : List Record) × (all ≡ answer (up_to y) (limited h l)) × (z ≡ record { length = capped (sum_by record_bytes l); records = length l })
           × (length (encode (clean_sheet h l)) ≡ 452 + sum_by record_bytes l)
       found =
           let g = rows_given (answer (up_to y) (rows_walk t)) z (sym rows ∙ e) in
           let near = (rows_back (up_to y) t bs g.0 g.1).0 in
-          let head = head-fine h typed (step_holds y 0 (head_rules h) r n fine) in
+          let head = head-fine h typed (step_holds y 0 (head_rules h) r n tt fine) in
           (g.0, on ∙ bind_on (up_to y) (rows_walk t) (limited h) g.0 g.1, g.2, encode-length (clean_sheet h g.0) head (clean-tails h head) near)
 
-      pub too_long : limit - start < z.length → Are.Refused (refusal TOO_LONG 0 0) ≡ measured_of all
+      pub too_long : limit - start < z.length → Err (refusal TOO_LONG 0 0) ≡ measured_of all
       unfolding limit_rules
       too_long over =
           let l = found.0 in
@@ -132,7 +134,7 @@ module _ (y : ℕ) (h : Head) (t : Table) (r : Step) (n : Next Stp.Fine y 0 (hea
           let stop : answer (up_to y) (limited h l) ≡ refused TOO_LONG 0 0 = rw (lt-leb (length (encode u)) limit long) refl in
           sym (ap measured_of (found.1 ∙ stop))
 
-      pub fits : z.length ≤ limit - start → Are.Fine z ≡ measured_of all
+      pub fits : z.length ≤ limit - start → Ok z ≡ measured_of all
       unfolding limit_rules
       fits under =
           let l = found.0 in
@@ -142,7 +144,7 @@ module _ (y : ℕ) (h : Head) (t : Table) (r : Step) (n : Next Stp.Fine y 0 (hea
           let short : length (encode u) ≤ limit = omega (arith, under, z-is, same, found.3) in
           let goes : answer (up_to y) (limited h l) ≡ given u = rw (le-leb (length (encode u)) limit short) refl in
           let totals : z ≡ totals_of u = found.2 ∙ ap (λ (x : ℕ). record { length = x; records = length l }) same in
-          ap Are.Fine totals ∙ sym (ap measured_of (found.1 ∙ goes))
+          ap Ok totals ∙ sym (ap measured_of (found.1 ∙ goes))
 
 -- what the types of the writer's inputs say of a head
 pub typed_head : (date designation : List ℕ) (scale : ℕ) (title rest designation2 carried : List ℕ) → Bytes date → Bytes designation → scale < 256 ^ 4
@@ -150,3 +152,18 @@ pub typed_head : (date designation : List ℕ) (scale : ℕ) (title rest designa
     → Typed (head_of date designation scale title rest designation2 carried)
 typed_head date designation scale title rest designation2 carried a b s c d e f =
     record { date = a; designation = b; scale = s; title = c; rest = d; designation2 = e; carried = f }
+
+-- of the texts and the table that are given
+pub typed_texts : (t : HeadTexts) (scale : ℕ) → scale < 256 ^ 4 → (length t.rest.now ≡ 304) × (length t.carried.now ≡ 4) → Typed (head_in scale t)
+typed_texts t scale small l =
+    typed_head t.date.now t.designation.now scale t.title.now t.rest.now t.designation2.now t.carried.now
+    (all-bytes t.date.now t.date_bytes)
+    (all-bytes t.designation.now t.designation_bytes)
+    small
+    (all-bytes t.title.now t.title_bytes)
+    (l.0, all-bytes t.rest.now t.rest_bytes)
+    (all-bytes t.designation2.now t.designation2_bytes)
+    (l.1, all-bytes t.carried.now t.carried_bytes)
+
+pub typed_pool : (t : RecordTable) → Bytes (lists t).bytes
+typed_pool t = all-bytes t.bytes.now t.is_bytes

@@ -5,10 +5,11 @@ use mathlib.Core.Path.{◌≡◌, refl, sym, ap, ◌∙◌}
 use Prim.Native.Nat.{ℕ, zero, suc, ◌+◌, ◌-◌, ◌*◌, ◌^◌, ◌≤◌, ◌<◌}
 use borrow.Author.Tests.{lt-ltb, le-ltb}
 use lib.Dec.{ltb}
-use lib.ListN.{length, get_or, drop, replicate, length-drop}
+use lib.ListN.{length, get_or, take, drop, replicate, length-drop}
 use lib.Seq.{drop-cons, get_or-drop}
 use native.Mathlib.Numerals.{add-one}
 use native.Mathlib.Omega.{arith}
+use Rattle.std.specs.List.{list_all}
 use Rattle.fields.specs.Shapes.{dimensions}
 use Rattle.layout.specs.Bytes.{repeat}
 use Rattle.layout.specs.Shared.Widths.{element_widths}
@@ -19,23 +20,14 @@ never e = let z : ◌≡◌ {A = ℕ} 0 1 = cc in omega arith
 
 -- elements of one width
 
-module _ (w : ℕ) (es : List ℕ) (i : ℕ) (h : i < length es) where
-  fit_at : (m : ℕ) → fit_all (replicate (suc m) w) (drop i es) ≡ (ltb (get_or es i 0) (256 ^ w) && fit_all (replicate m w) (drop (suc i) es))
-  fit_at m = rw (drop-cons es i 0 h) refl
+fit_list : (w n : ℕ) (es : List ℕ) → n ≤ length es → list_all (λ x. ltb x (256 ^ w)) (take n es) ≡ fit_all (replicate n w) es
+fit_list w zero es h = refl
+fit_list w (suc n) [] h = absurd (omega arith)
+fit_list w (suc n) (e ∷ es) h = ap (λ b. ltb e (256 ^ w) && b) (fit_list w n es (omega arith))
 
-  pub fit_wide : (left : ℕ) → 0 < left → 256 ^ w ≤ get_or es i 0 → fit_all (replicate left w) (drop i es) ≡ false
-  fit_wide zero l g = absurd (omega arith)
-  fit_wide (suc m) l g = fit_at m ∙ rw (le-ltb (get_or es i 0) (256 ^ w) g)
-
-  pub fit_next : (left : ℕ) → 0 < left → get_or es i 0 < 256 ^ w → fit_all (replicate left w) (drop i es) ≡ fit_all (replicate (left - 1) w) (drop (i + 1) es)
-  fit_next zero l g = absurd (omega arith)
-  fit_next (suc m) l g =
-      let e : suc m - 1 ≡ m = omega arith in
-      fit_at m ∙ rw (lt-ltb (get_or es i 0) (256 ^ w) g, e, add-one i)
-
-pub fit_done : (w left : ℕ) (es : List ℕ) → left ≤ 0 → fit_all (replicate left w) es ≡ true
-fit_done w zero es h = refl
-fit_done w (suc m) es h = absurd (omega arith)
+pub fit_all_lem : (w n at : ℕ) (es : List ℕ) → at + n ≤ length es
+    → list_all (λ x. ltb x (256 ^ w)) (take n (drop at es)) ≡ fit_all (replicate n w) (drop at es)
+fit_all_lem w n at es h = fit_list w n (drop at es) (omega (arith, h, length-drop at es))
 
 -- any element fits eight bytes
 fit-eight : (n : ℕ) (es : List ℕ) → n ≤ length es → ((i : ℕ) → get_or es i 0 < 256 ^ 8) → fit_all (replicate n 8) es ≡ true

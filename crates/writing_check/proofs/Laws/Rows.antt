@@ -9,10 +9,7 @@ use lib.ListN.{length, drop, length-drop}
 use lib.Seq.{drop-drop}
 use native.Mathlib.Nat.{add-zero}
 use native.Mathlib.Omega.{arith}
-use Rattle.fields.proofs.Laws.Chain.{step_holds, step_on, step_stop}
-use Rattle.fields.specs.Steps.{Next}
-use Rattle.fields.specs.declared.steps.Step.{Step}
-use Rattle.fields.specs.declared.steps.Step.TheVariants as Stp
+use Rattle.fields.specs.Checks.{and_next, checked}
 use Rattle.layout.specs.Answers.Calls.{and_then}
 use Rattle.layout.specs.Answers.Enums.{refusal}
 use Rattle.layout.specs.Bytes.{All, flat}
@@ -34,13 +31,12 @@ use Rattle.laws.proofs.Base.Lists.{both_true}
 use Rattle.laws.proofs.Base.Walks.{answer_bind, bind_on, bind_refused, checks_append}
 use Rattle.laws.proofs.Writing.Parts.{FineFirst, first_takes, subobject_takes, part-numbers}
 use Rattle.laws.proofs.Writing.Takes.{Takes, join_assoc, length-joined, many_takes}
-use Rattle.writing_check.proofs.Laws.Moves.{Went, went, stopped, number-after, moved-moved, moved-stop}
-use Rattle.writing_check.specs.Places.{capped, here, moved, moved_of, At}
+use Rattle.writing_check.proofs.Laws.Moves.{Went, went, stopped, number-after, moved-moved, moved-stop, after_checks, in_keeps}
+use Rattle.writing_check.specs.Places.{capped, here, moved, moved_of, At, In}
 use Rattle.writing_check.specs.Rows.{row_of, all_rules, inside_table, inside_bytes}
-use Rattle.writing_check.specs.declared.places.Moved.{Moved}
-use Rattle.writing_check.specs.declared.places.Moved.TheVariants.{Fine, Refused}
 use Rattle.writing_check.specs.declared.places.Places.{Places}
 use Rattle.writing_check.specs.declared.rows.Row.{Row}
+use Rattle.std.specs.Prelude.{Result, Ok, Err}
 
 -- the numbers that a row calls for, by division
 
@@ -83,10 +79,7 @@ row-roomy a left c =
 
 -- the parts and items inside a row
 
-module _ (y : ℕ) (ns es pool : List ℕ) (a : RecordRow) (p : Places) where
-  abbrev t : Table
-  t = table ns es pool
-
+module _ (y : ℕ) (t : Table) (a : RecordRow) (p : Places) where
   abbrev ref : Reference
   ref = a.reference_bytes
 
@@ -101,26 +94,26 @@ module _ (y : ℕ) (ns es pool : List ℕ) (a : RecordRow) (p : Places) where
   later q = answer (up_to y) (many (a.parts - 1) 2 (take_part ref (later_rules marked)) q.number (here t q))
 
   abbrev pub First : Places → Type 0
-  First q = Went first flatten_part (part_bytes ref) (FineFirst ref a.mark a.word) t p q
+  First q = Went (In t.elements) first flatten_part (part_bytes ref) (FineFirst ref a.mark a.word) t p q
 
   abbrev pub Later : Places → Places → Type 0
   Later q s =
-      Went (later q) (joined flatten_part) (sum_by (subobject_bytes ref)) (λ l. (length l ≡ a.parts - 1) × All (FineSubobject ref marked) l) t q s
+      Went (In t.elements) (later q) (joined flatten_part) (sum_by (subobject_bytes ref)) (λ l. (length l ≡ a.parts - 1) × All (FineSubobject ref marked) l) t q s
 
   abbrev inside : Answer (Taken Record)
   inside = answer (up_to y) (take_inside a p.number (here t p))
 
-  module _ (h : At ns pool p) (room : p.number + 2 ≤ length ns) (m : Moved) (e : m ≡ moved_of flatten_part (part_bytes ref) p first) where
-    pub first_went : (q : Places) → m ≡ Fine q → First q
+  module _ (h : At t p) (room : p.number + 2 ≤ length t.numbers) (m : Result Places Refusal) (e : m ≡ moved_of flatten_part (part_bytes ref) p first) where
+    pub first_went : (q : Places) → m ≡ Ok q → First q
     first_went q i =
         went (up_to y) 2 (take_part ref (first_rules a.mark a.word)) flatten_part (FineFirst ref a.mark a.word) (λ b. [])
-        (first_takes (up_to y) ref a.mark a.word) (part_bytes ref) t p h room m e q i
+        (first_takes (up_to y) ref a.mark a.word) (part_bytes ref) (In t.elements) t (in_keeps t.elements) p h room m e q i
 
-    pub first-stop : (q : Refusal) → m ≡ Refused q → Refused q ≡ moved_of inside_table inside_bytes p inside
+    pub first-stop : (q : Refusal) → m ≡ Err q → Err q ≡ moved_of inside_table inside_bytes p inside
     unfolding take_inside
     first-stop q i =
         let s = stopped (up_to y) 2 (take_part ref (first_rules a.mark a.word)) flatten_part (FineFirst ref a.mark a.word) (λ b. [])
-        (first_takes (up_to y) ref a.mark a.word) (part_bytes ref) t p h room m e q i in
+        (first_takes (up_to y) ref a.mark a.word) (part_bytes ref) (In t.elements) t (in_keeps t.elements) p h room m e q i in
         sym (ap (moved_of inside_table inside_bytes p) (bind_refused (up_to y) (take_part ref (first_rules a.mark a.word) p.number (here t p)) _ s))
 
   abbrev items : ℕ → Table → Walk (Taken (List Item))
@@ -131,7 +124,7 @@ module _ (y : ℕ) (ns es pool : List ℕ) (a : RecordRow) (p : Places) where
 
   module _ (q : Places) (w : First q) where
     pub first_next : q.number ≡ p.number + 2
-    first_next = number-after first flatten_part (part_bytes ref) (FineFirst ref a.mark a.word) t p q 2 part-numbers w
+    first_next = number-after (In t.elements) first flatten_part (part_bytes ref) (FineFirst ref a.mark a.word) t p q 2 part-numbers w
 
     abbrev laters : Walk (Taken (List Part))
     laters = many (a.parts - 1) 2 (take_part ref (later_rules marked)) q.number (here t q)
@@ -145,20 +138,20 @@ module _ (y : ℕ) (ns es pool : List ℕ) (a : RecordRow) (p : Places) where
         bind_on (up_to y) (take_part ref (first_rules a.mark a.word) p.number (here t p)) _ (taken w.value (here t q)) w.is
         ∙ ap (λ i. answer (up_to y) (many (a.parts - 1) 2 (take_part ref (later_rules marked)) i (here t q) >>= and_items)) (sym first_next)
 
-    module _ (h : At ns pool q) (room : q.number + 2 * (a.parts - 1) ≤ length ns) (m : Moved)
+    module _ (h : At t q) (room : q.number + 2 * (a.parts - 1) ≤ length t.numbers) (m : Result Places Refusal)
         (e : m ≡ moved_of (joined flatten_part) (sum_by (subobject_bytes ref)) q (later q)) where
       takes : Takes (up_to y) ((a.parts - 1) * 2) (many (a.parts - 1) 2 (take_part ref (later_rules marked))) (joined flatten_part)
           (λ l. (length l ≡ a.parts - 1) × All (FineSubobject ref marked) l) (flat (λ b. []))
       takes = many_takes (up_to y) 2 (take_part ref (later_rules marked)) flatten_part (FineSubobject ref marked) (λ b. [])
           (subobject_takes (up_to y) ref marked) part-numbers (a.parts - 1)
 
-      pub laters_went : (s : Places) → m ≡ Fine s → Later q s
+      pub laters_went : (s : Places) → m ≡ Ok s → Later q s
       laters_went s i =
           went (up_to y) ((a.parts - 1) * 2) (many (a.parts - 1) 2 (take_part ref (later_rules marked))) (joined flatten_part)
           (λ l. (length l ≡ a.parts - 1) × All (FineSubobject ref marked) l) (flat (λ b. [])) takes
-          (sum_by (subobject_bytes ref)) t q h (omega (arith, room)) m e s i
+          (sum_by (subobject_bytes ref)) (In t.elements) t (in_keeps t.elements) q h (omega (arith, room)) m e s i
 
-      pub laters-stop : (z : Refusal) → m ≡ Refused z → Refused z ≡ moved_of inside_table inside_bytes p inside
+      pub laters-stop : (z : Refusal) → m ≡ Err z → Err z ≡ moved_of inside_table inside_bytes p inside
       laters-stop z i =
           let s = moved-stop (joined flatten_part) (sum_by (subobject_bytes ref)) q (later q) z (sym e ∙ i) in
           sym (ap (moved_of inside_table inside_bytes p) (after_first_lem ∙ bind_refused (up_to y) laters and_items s))
@@ -188,10 +181,10 @@ module _ (y : ℕ) (ns es pool : List ℕ) (a : RecordRow) (p : Places) where
 
       last : (x : Answer (Taken (List Item))) → moved_of (joined flatten_item) (sum_by item_bytes) s x
           ≡ moved_of inside_table inside_bytes p (and_then x (λ i. given (made w.value v.value i)))
-      last (given i) = ap Fine (three i)
+      last (given i) = ap Ok (three i)
       last (refused n j z) = refl
 
-      pub items_last : 1 ≤ a.parts → (m : Moved) → m ≡ moved_of (joined flatten_item) (sum_by item_bytes) s (answer (up_to y) (items s.number (here t s)))
+      pub items_last : 1 ≤ a.parts → (m : Result Places Refusal) → m ≡ moved_of (joined flatten_item) (sum_by item_bytes) s (answer (up_to y) (items s.number (here t s)))
           → m ≡ moved_of inside_table inside_bytes p inside
       items_last some m e =
           e
@@ -210,7 +203,7 @@ row_with r i u = row_rules r i (length u.numbers) >> take_inside r (i + Index.ro
 row_rules_lem : {A : Type 0} (r : RecordRow) (i left : ℕ) (w : Walk A) → Index.row_width ≤ left → (row_rules r i left >> w) ≡ (checks i (all_rules r left) >> w)
 unfolding row_rules room_rules
 row_rules_lem r i left w h =
-    let S : List Check = must (leb (Index.row_size r.parts r.items) left) 14 0 ∷ [] in
+    let S : List Check = must (leb (Index.row_size r.parts r.items) left) TABLE 0 ∷ [] in
     let N = name_rules r in
     let R = reference_checks 3 3 3 r.reference_bytes in
     let C = count_rules r in
@@ -226,15 +219,15 @@ module _ (y : ℕ) (ns es pool : List ℕ) (p : Places) where
   abbrev one : Answer (Taken Record)
   one = answer (up_to y) (row_walk p.number (here all p))
 
-  pub row-short : length ns - p.number < Index.row_width → Refused (refusal TABLE p.number 0) ≡ moved_of flatten_record record_bytes p one
+  pub row-short : length ns - p.number < Index.row_width → Err (refusal TABLE p.number 0) ≡ moved_of flatten_record record_bytes p one
   unfolding row_walk row_rules room_rules
   row-short h =
       rw (lt-leb Index.row_width (length (drop p.number ns)) (omega (arith, h, length-drop p.number ns)), add-zero p.number) refl
 
-  module _ (h : Index.row_width ≤ length ns - p.number) (a : Row) (row : row_of a ≡ row_in (drop p.number ns)) (r : Step)
-      (n : Next Stp.Fine y p.number (all_rules (row_of a) (length ns - p.number)) r) (len : ℕ) (l : len ≡ capped (p.length + 32)) where
+  module _ (h : Index.row_width ≤ length ns - p.number) (a : Row) (row : row_of a ≡ row_in (drop p.number ns))
+      (len : ℕ) (l : len ≡ capped (p.length + 32)) where
     -- the places after the row's numbers
-    abbrev after : Places
+    abbrev pub after : Places
     after = record { number = p.number + Index.row_width; element = p.element; byte = p.byte; length = len }
 
     abbrev rest : Walk (Taken Record)
@@ -252,14 +245,6 @@ module _ (y : ℕ) (ns es pool : List ℕ) (p : Places) where
         ∙ ap (λ z. row_rules (row_of a) p.number z >> rest) d
         ∙ row_rules_lem (row_of a) p.number (length ns - p.number) rest h
 
-    pub row-stop : (q : Refusal) → r ≡ Stp.Refused q → Refused q ≡ moved_of flatten_record record_bytes p one
-    row-stop q e =
-        sym (ap (λ w. moved_of flatten_record record_bytes p (answer (up_to y) w)) row_walk_lem
-        ∙ ap (moved_of flatten_record record_bytes p) (step_stop y p.number _ r n rest q e))
-
-    pub row_room : r ≡ Stp.Fine → Roomy (row_of a) (length ns - p.number)
-    row_room e = row-roomy (row_of a) (length ns - p.number) (step_holds y p.number _ r n e)
-
     head-is : (x : Record) → after ≡ moved p (flatten_header x) 32
     unfolding flatten_header
     head-is x = rw (add-zero p.element, add-zero p.byte, l) refl
@@ -267,13 +252,14 @@ module _ (y : ℕ) (ns es pool : List ℕ) (p : Places) where
     with-head : (v : Answer (Taken Record)) → moved_of inside_table inside_bytes after v ≡ moved_of flatten_record record_bytes p v
     unfolding flatten_record record_bytes
     with-head (given v) =
-        ap Fine (ap (λ z. moved z (inside_table v.value) (inside_bytes v.value)) (head-is v.value)
+        ap Ok (ap (λ z. moved z (inside_table v.value) (inside_bytes v.value)) (head-is v.value)
         ∙ moved-moved p (flatten_header v.value) (inside_table v.value) 32 (inside_bytes v.value))
     with-head (refused k j z) = refl
 
-    pub row_on : r ≡ Stp.Fine → (m : Moved) → m ≡ moved_of inside_table inside_bytes after (answer (up_to y) rest) → m ≡ moved_of flatten_record record_bytes p one
-    row_on e m i =
-        i
-        ∙ with-head (answer (up_to y) rest)
-        ∙ sym (ap (λ w. moved_of flatten_record record_bytes p (answer (up_to y) w)) row_walk_lem
-        ∙ ap (moved_of flatten_record record_bytes p) (step_on y p.number _ r n rest e))
+    -- a row is the rules on it, and then what stands inside
+    pub row_takes : moved_of flatten_record record_bytes p one
+        ≡ and_next (checked y p.number (all_rules (row_of a) (length ns - p.number))) (moved_of inside_table inside_bytes after (answer (up_to y) rest))
+    row_takes =
+        ap (λ w. moved_of flatten_record record_bytes p (answer (up_to y) w)) row_walk_lem
+        ∙ after_checks _ y p.number (all_rules (row_of a) (length ns - p.number)) rest
+        ∙ ap (and_next (checked y p.number (all_rules (row_of a) (length ns - p.number)))) (sym (with-head (answer (up_to y) rest)))

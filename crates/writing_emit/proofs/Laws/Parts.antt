@@ -6,10 +6,10 @@ use Prim.Native.Nat.{ℕ, ◌+◌, ◌*◌, ◌/◌, ◌%◌, ◌≤◌, ◌<◌
 use lib.ListN.{length, take, drop, get_or, length-append, length-drop}
 use lib.Seq.{sets, take_at, length-sets, length-take-le}
 use native.Mathlib.Omega.{arith}
-use Rattle.writing_emit.specs.Cursors.{table_of, moved}
+use Rattle.writing_emit.specs.Cursors.{moved}
 use Rattle.writing_emit.specs.Parts.{PartFits, part_bytes, subobject_bytes}
 use Rattle.writing_emit.specs.Pieces.{Piece, Emitted}
-use Rattle.writing_emit.specs.declared.cursors.Cursor.{Cursor}
+use Rattle.fields.specs.declared.cursors.Cursor.{Cursor}
 use Rattle.fields.proofs.Laws.Widths.{widths-count}
 use Rattle.fields.specs.Shapes.{dimensions, widths_of, point_of}
 use Rattle.fields.specs.declared.shapes.Shape.{Shape}
@@ -22,7 +22,6 @@ use Rattle.layout.specs.Sheet.{Part, Table}
 use Rattle.layout.specs.Writing.Tables.{flatten_part}
 use Rattle.laws.proofs.Base.Numbers.{length-stored, total-repeat}
 use Rattle.writing_emit.proofs.Laws.Moves.{sets_twice, emitted}
-use Rattle.writing_emit.proofs.Laws.Headers.{nth-first, nth-at}
 use Rattle.writing_emit.proofs.Laws.Unique.{part-elements, part_unique}
 
 -- a text that was asked for
@@ -59,157 +58,158 @@ stored_more [] xs r f = refl
 stored_more (w ∷ ws) [] r f = absurd f
 stored_more (w ∷ ws) (x ∷ xs) r f = ap (λ l. bytes w x ++ l) (stored_more ws xs r f.1)
 
--- the part at the cursor, whatever its bytes are
-module _ (B : Shape → Part → List ℕ) (ns es bs : List ℕ) (s : Shape) (c : Cursor) (ol : ℕ)
-    (p : Piece flatten_part (PartFits s) (B s) c (table_of ns es bs) ol) where
-  numbers_are : p.value.points ∷ length p.value.text ∷ p.rest.numbers ≡ drop c.number ns
+-- the part at the cursor, whatever its bytes are, and ns, the rows from the cursor on
+module _ (B : Shape → Part → List ℕ) (T : Table) (s : Shape) (c : Cursor) (ol : ℕ)
+    (p : Piece flatten_part (PartFits s) (B s) c T ol) (ns : List ℕ) (en : ns ≡ drop c.numbers T.numbers) where
+  numbers_are : p.value.points ∷ length p.value.text ∷ p.rest.numbers ≡ ns
   unfolding flatten_part
-  numbers_are = ap (λ (t : Table). t.numbers) p.is
+  numbers_are = ap (λ (t : Table). t.numbers) p.is ∙ sym en
 
   -- its two numbers, as the code reads them
-  part-reads : (get_or ns c.number 0 ≡ p.value.points) × (get_or ns (c.number + 1) 0 ≡ length p.value.text)
+  part-reads : (get_or ns 0 0 ≡ p.value.points) × (get_or ns 1 0 ≡ length p.value.text)
   part-reads = (
-    nth-first ns c.number ∙ ap (λ l. Row.nth l 0) (sym numbers_are),
-    nth-at ns c.number 1 ∙ ap (λ l. Row.nth l 1) (sym numbers_are),
+    ap (λ l. Row.nth l 0) (sym numbers_are),
+    ap (λ l. Row.nth l 1) (sym numbers_are),
   )
 
-  pub part-some : (c.number + 2 ≤ length ns) × (get_or ns c.number 0 < 2 ^ 32)
+  pub part-some : (2 ≤ length ns) × (get_or ns 0 0 < 2 ^ 32)
   unfolding flatten_part
-  part-some = (p.room.number, rw part-reads.0 p.fine.points)
+  part-some = (omega (arith, ap length numbers_are), rw part-reads.0 p.fine.points)
 
-module _ (ns es bs : List ℕ) (s : Shape) (c : Cursor) (ol : ℕ) (p : Piece flatten_part (PartFits s) (part_bytes s) c (table_of ns es bs) ol) where
+module _ (T : Table) (s : Shape) (c : Cursor) (ol : ℕ) (p : Piece flatten_part (PartFits s) (part_bytes s) c T ol)
+    (ns : List ℕ) (en : ns ≡ drop c.numbers T.numbers) where
   abbrev a : Part
   a = p.value
 
-  abbrev reads : (get_or ns c.number 0 ≡ a.points) × (get_or ns (c.number + 1) 0 ≡ length a.text)
-  reads = part-reads part_bytes ns es bs s c ol p
+  abbrev reads : (get_or ns 0 0 ≡ a.points) × (get_or ns 1 0 ≡ length a.text)
+  reads = part-reads part_bytes T s c ol p ns en
 
-  text-is : take (get_or ns (c.number + 1) 0) (drop c.byte bs) ≡ a.text
+  text-is : take (get_or ns 1 0) (drop c.bytes T.bytes) ≡ a.text
   unfolding flatten_part
   text-is =
-      let e : a.text ++ p.rest.bytes ≡ drop c.byte bs = ap (λ (t : Table). t.bytes) p.is in
-      ap (λ l. take (get_or ns (c.number + 1) 0) l) (sym e) ∙ take_at a.text p.rest.bytes _ (sym reads.1)
+      let e : a.text ++ p.rest.bytes ≡ drop c.bytes T.bytes = ap (λ (t : Table). t.bytes) p.is in
+      ap (λ l. take (get_or ns 1 0) l) (sym e) ∙ take_at a.text p.rest.bytes _ (sym reads.1)
 
   abbrev stored : List ℕ
   stored = stored_all (repeat a.points (widths_of s)) a.elements
 
-  stored_is : stored_all (repeat (get_or ns c.number 0) (widths_of s)) (drop c.element es) ≡ stored
+  stored_is : stored_all (repeat (get_or ns 0 0) (widths_of s)) (drop c.elements T.elements) ≡ stored
   unfolding flatten_part
   stored_is =
-      let e : a.elements ++ p.rest.elements ≡ drop c.element es = ap (λ (t : Table). t.elements) p.is in
+      let e : a.elements ++ p.rest.elements ≡ drop c.elements T.elements = ap (λ (t : Table). t.elements) p.is in
       ap₂ (λ n l. stored_all (repeat n (widths_of s)) l) reads.0 (sym e)
       ∙ stored_more (repeat a.points (widths_of s)) a.elements p.rest.elements p.fine.elements
 
-  stored-length : length stored ≡ get_or ns c.number 0 * point_of s
+  stored-length : length stored ≡ get_or ns 0 0 * point_of s
   stored-length =
       length-stored (repeat a.points (widths_of s)) a.elements p.fine.elements
       ∙ total-repeat a.points (widths_of s)
       ∙ ap₂ (λ n k. n * k) (sym reads.0) (sym (point_is_elements s.size s.float s.three))
 
-  elements-length : length a.elements ≡ get_or ns c.number 0 * dimensions s.three
+  elements-length : length a.elements ≡ get_or ns 0 0 * dimensions s.three
   elements-length = part-elements s a p.fine ∙ ap₂ (λ n k. n * k) (sym reads.0) (widths-count s.size s.float s.three)
 
   -- the two numbers are small, and the lists have room
-  pub part_asks : (c.element + get_or ns c.number 0 * dimensions s.three ≤ length es) × (c.byte + get_or ns (c.number + 1) 0 ≤ length bs)
-      × (get_or ns (c.number + 1) 0 < 256)
-      × (c.out + (get_or ns c.number 0 * point_of s + length (encode_text s.text (take (get_or ns (c.number + 1) 0) (drop c.byte bs)))) ≤ ol)
+  pub part_asks : (c.elements + get_or ns 0 0 * dimensions s.three ≤ length T.elements) × (c.bytes + get_or ns 1 0 ≤ length T.bytes)
+      × (get_or ns 1 0 < 256)
+      × (c.place + (get_or ns 0 0 * point_of s + length (encode_text s.text (take (get_or ns 1 0) (drop c.bytes T.bytes)))) ≤ ol)
   unfolding flatten_part
   part_asks = (
-    rw (← elements-length) p.room.element,
-    rw reads.1 p.room.byte,
+    rw (← elements-length) p.room.elements,
+    rw reads.1 p.room.bytes,
     rw reads.1 (label-short s.text a.text p.fine.label),
-    rw (text-is, ← stored-length, ← (length-append stored (encode_text s.text a.text))) p.room.out,
+    rw (text-is, ← stored-length, ← (length-append stored (encode_text s.text a.text))) p.room.place,
   )
 
   -- the room of the bytes, by the size that the code has for a point
   pub size_asks : (size : ℕ) → size ≡ point_of s
-      → c.out + get_or ns c.number 0 * size + length (encode_text s.text (take (get_or ns (c.number + 1) 0) (drop c.byte bs))) ≤ ol
+      → c.place + get_or ns 0 0 * size + length (encode_text s.text (take (get_or ns 1 0) (drop c.bytes T.bytes))) ≤ ol
   size_asks size e = let a = part_asks.3 in rw e (omega (arith, a))
 
-  module _ (size k t : ℕ) (ez : size ≡ point_of s) (ek : k ≡ get_or ns c.number 0 * dimensions s.three)
-      (et : t ≡ length (encode_text s.text (take (get_or ns (c.number + 1) 0) (drop c.byte bs)))) where
+  module _ (size k t : ℕ) (ez : size ≡ point_of s) (ek : k ≡ get_or ns 0 0 * dimensions s.three)
+      (et : t ≡ length (encode_text s.text (take (get_or ns 1 0) (drop c.bytes T.bytes)))) where
     -- where the text starts
-    text-place : c.out + get_or ns c.number 0 * size ≡ c.out + length stored
+    text-place : c.place + get_or ns 0 0 * size ≡ c.place + length stored
     text-place = rw (stored-length, ez) refl
 
     part_moved : record {
-      number = c.number + 2;
-      element = c.element + k;
-      byte = c.byte + get_or ns (c.number + 1) 0;
-      out = c.out + get_or ns c.number 0 * size + t;
+      numbers = c.numbers + 2;
+      elements = c.elements + k;
+      bytes = c.bytes + get_or ns 1 0;
+      place = c.place + get_or ns 0 0 * size + t;
     } ≡ moved c (flatten_part a) (part_bytes s a)
     unfolding flatten_part
     part_moved =
-        let e : c.element + k ≡ c.element + length a.elements = ap (λ n. c.element + n) (ek ∙ sym elements-length) in
+        let e : c.elements + k ≡ c.elements + length a.elements = ap (λ n. c.elements + n) (ek ∙ sym elements-length) in
         let text : t ≡ length (encode_text s.text a.text) = et ∙ ap (λ l. length (encode_text s.text l)) text-is in
-        let o : c.out + get_or ns c.number 0 * size + t ≡ c.out + length (part_bytes s a) =
+        let o : c.place + get_or ns 0 0 * size + t ≡ c.place + length (part_bytes s a) =
         omega (arith, text-place, text, length-append stored (encode_text s.text a.text)) in
-        λ j. record { number = c.number + 2; element = e j; byte = c.byte + reads.1 j; out = o j }
+        λ j. record { numbers = c.numbers + 2; elements = e j; bytes = c.bytes + reads.1 j; place = o j }
 
-    pub part_did : (o₀ o₁ o₂ : List ℕ) → o₁ ≡ sets o₀ c.out (stored_all (repeat (get_or ns c.number 0) (widths_of s)) (drop c.element es))
-        → o₂ ≡ sets o₁ (c.out + get_or ns c.number 0 * size) (encode_text s.text (take (get_or ns (c.number + 1) 0) (drop c.byte bs)))
-        → Emitted flatten_part (PartFits s) (part_bytes s) c (table_of ns es bs) o₀ o₂ (record {
-          number = c.number + 2;
-          element = c.element + k;
-          byte = c.byte + get_or ns (c.number + 1) 0;
-          out = c.out + get_or ns c.number 0 * size + t;
+    pub part_did : (o₀ o₁ o₂ : List ℕ) → o₁ ≡ sets o₀ c.place (stored_all (repeat (get_or ns 0 0) (widths_of s)) (drop c.elements T.elements))
+        → o₂ ≡ sets o₁ (c.place + get_or ns 0 0 * size) (encode_text s.text (take (get_or ns 1 0) (drop c.bytes T.bytes)))
+        → Emitted flatten_part (PartFits s) (part_bytes s) c T o₀ o₂ (record {
+          numbers = c.numbers + 2;
+          elements = c.elements + k;
+          bytes = c.bytes + get_or ns 1 0;
+          place = c.place + get_or ns 0 0 * size + t;
         })
     part_did o₀ o₁ o₂ f g =
-        let f1 : o₁ ≡ sets o₀ c.out stored = f ∙ rw stored_is refl in
-        let g1 : o₂ ≡ sets o₁ (c.out + length stored) (encode_text s.text a.text) = g ∙ rw (text-is, text-place) refl in
-        emitted flatten_part (PartFits s) (part_bytes s) (part_unique s) c (table_of ns es bs) o₀ o₂ _ a p.rest p.fine p.is part_moved
-        (sets_twice o₀ o₁ o₂ c.out stored (encode_text s.text a.text) f1 g1)
+        let f1 : o₁ ≡ sets o₀ c.place stored = f ∙ rw stored_is refl in
+        let g1 : o₂ ≡ sets o₁ (c.place + length stored) (encode_text s.text a.text) = g ∙ rw (text-is, text-place) refl in
+        emitted flatten_part (PartFits s) (part_bytes s) (part_unique s) c T o₀ o₂ _ a p.rest p.fine p.is part_moved
+        (sets_twice o₀ o₁ o₂ c.place stored (encode_text s.text a.text) f1 g1)
 
 -- a later part: the cursor past N1 and N2
 abbrev pub past : Cursor → ℕ → Cursor
-past c k = record { number = c.number; element = c.element; byte = c.byte; out = c.out + k }
+past c k = record { numbers = c.numbers; elements = c.elements; bytes = c.bytes; place = c.place + k }
 
-module _ (ns es bs : List ℕ) (s : Shape) (c : Cursor) (o₀ : List ℕ)
-    (p : Piece flatten_part (PartFits s) (subobject_bytes s) c (table_of ns es bs) (length o₀)) where
+module _ (T : Table) (s : Shape) (c : Cursor) (o₀ : List ℕ)
+    (p : Piece flatten_part (PartFits s) (subobject_bytes s) c T (length o₀)) (ns : List ℕ) (en : ns ≡ drop c.numbers T.numbers) where
   abbrev later : Part
   later = p.value
 
   abbrev count : ℕ
-  count = get_or ns c.number 0
+  count = get_or ns 0 0
 
   abbrev head : List ℕ
   head = bytes 2 (later.points / 65536) ++ bytes 2 (later.points % 65536)
 
-  module _ (o₁ o₂ : List ℕ) (f : o₁ ≡ sets o₀ c.out (bytes 2 (get_or ns c.number 0 / 65536)))
-      (g : o₂ ≡ sets o₁ (c.out + 2) (bytes 2 (get_or ns c.number 0 % 65536))) where
-    head-wrote : o₂ ≡ sets o₀ c.out head
+  module _ (o₁ o₂ : List ℕ) (f : o₁ ≡ sets o₀ c.place (bytes 2 (get_or ns 0 0 / 65536)))
+      (g : o₂ ≡ sets o₁ (c.place + 2) (bytes 2 (get_or ns 0 0 % 65536))) where
+    head-wrote : o₂ ≡ sets o₀ c.place head
     head-wrote =
-        let r : count ≡ later.points = (part-reads subobject_bytes ns es bs s c (length o₀) p).0 in
-        sets_twice o₀ o₁ o₂ c.out (bytes 2 (count / 65536)) (bytes 2 (count % 65536)) f g ∙ rw r refl
+        let r : count ≡ later.points = (part-reads subobject_bytes T s c (length o₀) p ns en).0 in
+        sets_twice o₀ o₁ o₂ c.place (bytes 2 (count / 65536)) (bytes 2 (count % 65536)) f g ∙ rw r refl
 
-    pub subobject_ask : Piece flatten_part (PartFits s) (part_bytes s) (past c 4) (table_of ns es bs) (length o₂)
+    pub subobject_ask : Piece flatten_part (PartFits s) (part_bytes s) (past c 4) T (length o₂)
     subobject_ask =
-        let l : length o₂ ≡ length o₀ = ap length head-wrote ∙ length-sets o₀ c.out head in
-        let out = p.room.out in
+        let l : length o₂ ≡ length o₀ = ap length head-wrote ∙ length-sets o₀ c.place head in
+        let out = p.room.place in
         record {
           value = later;
           rest = p.rest;
           is = p.is;
           fine = p.fine;
           room = record {
-            number = p.room.number;
-            element = p.room.element;
-            byte = p.room.byte;
-            out = omega (arith, out, l, length-append head (part_bytes s later));
+            numbers = p.room.numbers;
+            elements = p.room.elements;
+            bytes = p.room.bytes;
+            place = omega (arith, out, l, length-append head (part_bytes s later));
           };
         }
 
-    pub subobject_did : (o₃ : List ℕ) (r : Cursor) → Emitted flatten_part (PartFits s) (part_bytes s) (past c 4) (table_of ns es bs) o₂ o₃ r
-        → Emitted flatten_part (PartFits s) (subobject_bytes s) c (table_of ns es bs) o₀ o₃ r
+    pub subobject_did : (o₃ : List ℕ) (r : Cursor) → Emitted flatten_part (PartFits s) (part_bytes s) (past c 4) T o₂ o₃ r
+        → Emitted flatten_part (PartFits s) (subobject_bytes s) c T o₀ o₃ r
     subobject_did o₃ r done =
         let did = done.all later p.rest p.fine p.is in
-        let o : c.out + 4 + length (part_bytes s later) ≡ c.out + length (subobject_bytes s later) = omega (arith, length-append head (part_bytes s later)) in
+        let o : c.place + 4 + length (part_bytes s later) ≡ c.place + length (subobject_bytes s later) = omega (arith, length-append head (part_bytes s later)) in
         let m : moved (past c 4) (flatten_part later) (part_bytes s later) ≡ moved c (flatten_part later) (subobject_bytes s later) =
         λ j. record {
-          number = c.number + length (flatten_part later).numbers;
-          element = c.element + length (flatten_part later).elements;
-          byte = c.byte + length (flatten_part later).bytes;
-          out = o j;
+          numbers = c.numbers + length (flatten_part later).numbers;
+          elements = c.elements + length (flatten_part later).elements;
+          bytes = c.bytes + length (flatten_part later).bytes;
+          place = o j;
         } in
-        emitted flatten_part (PartFits s) (subobject_bytes s) (part_unique s) c (table_of ns es bs) o₀ o₃ r later p.rest p.fine p.is (did.0 ∙ m)
-        (sets_twice o₀ o₂ o₃ c.out head (part_bytes s later) head-wrote did.1)
+        emitted flatten_part (PartFits s) (subobject_bytes s) (part_unique s) c T o₀ o₃ r later p.rest p.fine p.is (did.0 ∙ m)
+        (sets_twice o₀ o₂ o₃ c.place head (part_bytes s later) head-wrote did.1)

@@ -6,11 +6,11 @@ use lib.ListN.{length, drop, get_or, length-append}
 use lib.Seq.{sets, length-sets}
 use native.Mathlib.Nat.{add-zero}
 use native.Mathlib.Omega.{arith}
-use Rattle.writing_emit.specs.Cursors.{table_of, ahead, moved}
+use Rattle.writing_emit.specs.Cursors.{ahead, moved, Room}
 use Rattle.writing_emit.specs.Parts.{PartFits, metric_table, MetricFits, metric_bytes}
-use Rattle.writing_emit.specs.Pieces.{Room, Piece, Emitted, Counted, pair_table, Both, pair_bytes}
+use Rattle.writing_emit.specs.Pieces.{Piece, Emitted, Counted, pair_table, Both, pair_bytes}
 use Rattle.writing_emit.specs.Records.{lengths_of, names_of, reference_and_word, counts_of, header_of, RowFits}
-use Rattle.writing_emit.specs.declared.cursors.Cursor.{Cursor}
+use Rattle.fields.specs.declared.cursors.Cursor.{Cursor}
 use Rattle.fields.proofs.Laws.Put.{sets_append, sets_swap}
 use Rattle.fields.specs.Shapes.{shape_of}
 use Rattle.fields.specs.declared.shapes.Shape.{Shape}
@@ -20,84 +20,51 @@ use Rattle.layout.specs.Layout.Fine.{FineItem, FineSubobject, FineRecord}
 use Rattle.layout.specs.Shared.Mark.{has_mark}
 use Rattle.layout.specs.Shared.Row
 use Rattle.layout.specs.Sheet.{Part, Reference, Record, Table}
-use Rattle.layout.specs.Writing.Tables.{table, join, joined, flatten_header, flatten_part, flatten_item, flatten_record}
+use Rattle.layout.specs.Writing.Tables.{join, joined, flatten_header, flatten_part, flatten_item, flatten_record}
 use Rattle.laws.proofs.Encoding.Lengths.{length-header, length_record}
 use Rattle.laws.proofs.Reading.Records.{mark_on}
-use Rattle.laws.proofs.Writing.Items.{items-flat}
 use Rattle.laws.proofs.Writing.Records.{fine-near, near_first, bytes-of-number, record_numbers}
-use Rattle.laws.proofs.Writing.Takes.{join_assoc, table_path}
+use Rattle.laws.proofs.Writing.Takes.{join_assoc}
 use Rattle.writing_emit.proofs.Laws.Moves.{moved_twice, room-second, ahead-moved, emitted, pair-first, pair-second, pair_done}
-use Rattle.writing_emit.proofs.Laws.Headers.{nth-at}
 use Rattle.writing_emit.proofs.Laws.Unique.{Unique, part_unique, item_unique, record_unique, list_unique, pair_unique}
 
 all_map : {A : Type 0} (F G : A → Type 0) → ((a : A) → F a → G a) → (l : List A) → All F l → All G l
 all_map F G h [] f = tt
 all_map F G h (a ∷ l) f = (h a f.0, all_map F G h l f.1)
 
--- items where the pool of elements is not lent
-abbrev pub no_elements : Cursor → Cursor
-no_elements d = record { number = d.number; element = 0; byte = d.byte; out = d.out }
-
-module _ (ns es bs : List ℕ) (d : Cursor) (ol k : ℕ) (p : Piece (joined flatten_item) (Counted k FineItem) (flat encode_item) d (table_of ns es bs) ol) where
-  flat-is : join (joined flatten_item p.value) (table p.rest.numbers [] p.rest.bytes) ≡ ahead (no_elements d) (table_of ns [] bs)
-  flat-is =
-      table_path _ _ (ap (λ (t : Table). t.numbers) p.is) (ap (λ (l : List ℕ). l ++ []) (items-flat p.value)) (ap (λ (t : Table). t.bytes) p.is)
-
-  flat-ask : Piece (joined flatten_item) (Counted k FineItem) (flat encode_item) (no_elements d) (table_of ns [] bs) ol
-  flat-ask = record {
-    value = p.value;
-    rest = table p.rest.numbers [] p.rest.bytes;
-    is = flat-is;
-    fine = p.fine;
-    room = record {
-      number = p.room.number;
-      element = omega (arith, ap length (items-flat p.value));
-      byte = p.room.byte;
-      out = p.room.out;
-    };
-  }
-
-  flat_did : (o₀ o₁ : List ℕ) (e : Cursor) → Emitted (joined flatten_item) (Counted k FineItem) (flat encode_item) (no_elements d) (table_of ns [] bs) o₀ o₁ e
-      → Emitted (joined flatten_item) (Counted k FineItem) (flat encode_item) d (table_of ns es bs) o₀ o₁
-      (record { number = e.number; element = d.element; byte = e.byte; out = e.out })
-  flat_did o₀ o₁ e done =
-      let did = done.all p.value (table p.rest.numbers [] p.rest.bytes) p.fine flat-is in
-      let z : d.element ≡ d.element + length (joined flatten_item p.value).elements = omega (arith, ap length (items-flat p.value)) in
-      emitted (joined flatten_item) (Counted k FineItem) (flat encode_item) (list_unique flatten_item FineItem item_unique k) d (table_of ns es bs) o₀ o₁ _
-      p.value p.rest p.fine p.is (λ j. record { number = (did.0 j).number; element = z j; byte = (did.0 j).byte; out = (did.0 j).out }) did.1
-
--- the record at the cursor
-module _ (ns es bs : List ℕ) (c : Cursor) (o₀ : List ℕ) (p : Piece flatten_record FineRecord encode_record c (table_of ns es bs) (length o₀)) where
+-- the record at the cursor, and ns, the rows from the cursor on
+module _ (T : Table) (c : Cursor) (o₀ : List ℕ) (p : Piece flatten_record FineRecord encode_record c T (length o₀)) (ns : List ℕ)
+    (en : ns ≡ drop c.numbers T.numbers) where
   abbrev r : Record
   r = p.value
 
   abbrev row : List ℕ
   row = (join (flatten_record r) p.rest).numbers
 
-  row_is : row ≡ drop c.number ns
-  row_is = ap (λ (t : Table). t.numbers) p.is
+  row_is : row ≡ ns
+  row_is = ap (λ (t : Table). t.numbers) p.is ∙ sym en
 
   -- its row has at least a first part
-  pub record_some : c.number + 10 ≤ length ns
-  record_some = let n = p.room.number in omega (arith, n, record_numbers r)
+  pub row-long : 10 ≤ length ns
+  row-long = let e = ap length row_is in omega (arith, e, length-append (flatten_record r).numbers p.rest.numbers, record_numbers r)
 
-  parts_is : get_or ns (c.number + 6) 0 ≡ 1 + length r.subobjects
+  parts_is : Row.nth ns 6 ≡ 1 + length r.subobjects
   unfolding flatten_record flatten_header
-  parts_is = nth-at ns c.number 6 ∙ ap (λ l. Row.nth l 6) (sym row_is)
+  parts_is = ap (λ l. Row.nth l 6) (sym row_is)
 
-  items-is : get_or ns (c.number + 7) 0 ≡ length r.items
+  items-is : Row.nth ns 7 ≡ length r.items
   unfolding flatten_record flatten_header
-  items-is = nth-at ns c.number 7 ∙ ap (λ l. Row.nth l 7) (sym row_is)
+  items-is = ap (λ l. Row.nth l 7) (sym row_is)
 
-  pub record_parts : 1 ≤ get_or ns (c.number + 6) 0
+  pub record_parts : 1 ≤ Row.nth ns 6
   record_parts = omega (arith, parts_is)
 
-  reference-is : Row.reference_of (Row.nth (drop c.number ns) Row.reference) ≡ r.reference
+  reference-is : Row.reference_of (Row.nth ns Row.reference) ≡ r.reference
   unfolding flatten_record flatten_header
   reference-is =
       ap (λ l. Row.reference_of (Row.nth l Row.reference)) (sym row_is) ∙ bytes-of-number r.reference p.fine.byte20 p.fine.byte21 p.fine.byte22
 
-  pub row_fits : RowFits (drop c.number ns)
+  pub row_fits : RowFits ns
   unfolding flatten_record flatten_header flatten_part
   row_fits =
       let f = p.fine in
@@ -121,7 +88,7 @@ module _ (ns es bs : List ℕ) (c : Cursor) (o₀ : List ℕ) (p : Piece flatten
   abbrev header : List ℕ
   header = encode_header r metric semantics
 
-  header_is : header_of (drop c.number ns) metric semantics ≡ header
+  header_is : header_of ns metric semantics ≡ header
   unfolding header_of lengths_of names_of reference_and_word counts_of encode_header flatten_record flatten_header flatten_part
   header_is =
       let one : 1 + length r.subobjects - 1 ≡ length r.subobjects = omega arith in
@@ -131,13 +98,13 @@ module _ (ns es bs : List ℕ) (c : Cursor) (o₀ : List ℕ) (p : Piece flatten
 
   -- past the header, which is written last
   abbrev pub past_header : Cursor
-  past_header = record { number = c.number + Row.row_width; element = c.element; byte = c.byte; out = c.out + 32 }
+  past_header = record { numbers = c.numbers + Row.row_width; elements = c.elements; bytes = c.bytes; place = c.place + 32 }
 
   past_is : moved c (flatten_header r) header ≡ past_header
   unfolding flatten_header
   past_is =
-      let o : c.out + length header ≡ c.out + 32 = ap (λ k. c.out + k) (length-header r metric semantics) in
-      λ j. record { number = c.number + Row.row_width; element = add-zero c.element j; byte = add-zero c.byte j; out = o j }
+      let o : c.place + length header ≡ c.place + 32 = ap (λ k. c.place + k) (length-header r metric semantics) in
+      λ j. record { numbers = c.numbers + Row.row_width; elements = add-zero c.elements j; bytes = add-zero c.bytes j; place = o j }
 
   abbrev inside : Part × List Part
   inside = (r.first, r.subobjects)
@@ -156,22 +123,22 @@ module _ (ns es bs : List ℕ) (c : Cursor) (o₀ : List ℕ) (p : Piece flatten
   abbrev its : Table
   its = joined flatten_item r.items
 
-  whole : join (flatten_header r) (join (join (metric_table inside) its) p.rest) ≡ ahead c (table_of ns es bs)
+  whole : join (flatten_header r) (join (join (metric_table inside) its) p.rest) ≡ ahead c T
   whole = sym (join_assoc (flatten_header r) (join (metric_table inside) its) p.rest)
-      ∙ subst (λ t. join t p.rest ≡ ahead c (table_of ns es bs)) table_is p.is
+      ∙ subst (λ t. join t p.rest ≡ ahead c T) table_is p.is
 
-  inside_is : join (join (metric_table inside) its) p.rest ≡ ahead past_header (table_of ns es bs)
+  inside_is : join (join (metric_table inside) its) p.rest ≡ ahead past_header T
   inside_is =
-      subst (λ d. join (join (metric_table inside) its) p.rest ≡ ahead d (table_of ns es bs)) past_is
-      (ahead-moved c (flatten_header r) (join (join (metric_table inside) its) p.rest) header (table_of ns es bs) whole)
+      subst (λ d. join (join (metric_table inside) its) p.rest ≡ ahead d T) past_is
+      (ahead-moved c (flatten_header r) (join (join (metric_table inside) its) p.rest) header T whole)
 
-  inside-room : Room past_header (join (metric_table inside) its) (length body) (table_of ns es bs) (length o₀)
+  inside-room : Room past_header (join (metric_table inside) its) (length body) T (length o₀)
   inside-room =
-      let q : Room c (join (flatten_header r) (join (metric_table inside) its)) (length (header ++ body)) (table_of ns es bs) (length o₀) =
-      subst (λ x. Room c (join (flatten_header r) (join (metric_table inside) its)) (length x) (table_of ns es bs) (length o₀)) record_is
-      (subst (λ t. Room c t (length (encode_record r)) (table_of ns es bs) (length o₀)) table_is p.room) in
-      subst (λ d. Room d (join (metric_table inside) its) (length body) (table_of ns es bs) (length o₀)) past_is
-      (room-second c (flatten_header r) (join (metric_table inside) its) header body (table_of ns es bs) (length o₀) q)
+      let q : Room c (join (flatten_header r) (join (metric_table inside) its)) (length (header ++ body)) T (length o₀) =
+      subst (λ x. Room c (join (flatten_header r) (join (metric_table inside) its)) (length x) T (length o₀)) record_is
+      (subst (λ t. Room c t (length (encode_record r)) T (length o₀)) table_is p.room) in
+      subst (λ d. Room d (join (metric_table inside) its) (length body) T (length o₀)) past_is
+      (room-second c (flatten_header r) (join (metric_table inside) its) header body T (length o₀) q)
 
   inside-fits : MetricFits (shape_of r.reference) (length r.subobjects) inside
   inside-fits =
@@ -182,12 +149,12 @@ module _ (ns es bs : List ℕ) (c : Cursor) (o₀ : List ℕ) (p : Piece flatten
       (record { points = first.points; elements = first.part.elements; label = first.part.label }, (refl, later))
 
   -- the code's shape; its counts are those of the row
-  module _ (s : Shape) (shape : s ≡ shape_of (Row.reference_of (Row.nth (drop c.number ns) Row.reference))) where
+  module _ (s : Shape) (shape : s ≡ shape_of (Row.reference_of (Row.nth ns Row.reference))) where
     abbrev n : ℕ
-    n = get_or ns (c.number + 6) 0 - 1
+    n = Row.nth ns 6 - 1
 
     abbrev k : ℕ
-    k = get_or ns (c.number + 7) 0
+    k = Row.nth ns 7
 
     same_shape : s ≡ shape_of r.reference
     same_shape = shape ∙ ap (λ x. shape_of x) reference-is
@@ -209,14 +176,14 @@ module _ (ns es bs : List ℕ) (c : Cursor) (o₀ : List ℕ) (p : Piece flatten
     -- metric and items, one after another
     body-piece : Piece (pair_table metric_table (joined flatten_item)) (Both (MetricFits s n) (Counted k FineItem))
         (pair_bytes (metric_bytes s) (flat encode_item)) past_header
-        (table_of ns es bs) (length o₀)
+        T (length o₀)
     body-piece = record {
       value = (inside, r.items);
       rest = p.rest;
       is = inside_is;
       fine = body-fits;
       room =
-          subst (λ x. Room past_header (join (metric_table inside) its) (length x) (table_of ns es bs) (length o₀))
+          subst (λ x. Room past_header (join (metric_table inside) its) (length x) T (length o₀))
           (ap₂ (λ a b. a ++ b) (sym metric_is) (sym semantics-is)) inside-room;
     }
 
@@ -224,76 +191,68 @@ module _ (ns es bs : List ℕ) (c : Cursor) (o₀ : List ℕ) (p : Piece flatten
     metric_unique = pair_unique flatten_part (PartFits s) (part_unique s) (joined flatten_part) (Counted n (PartFits s))
         (list_unique flatten_part (PartFits s) (part_unique s) n)
 
-    pub metric-ask : Piece metric_table (MetricFits s (get_or ns (c.number + 6) 0 - 1)) (metric_bytes s) past_header (table_of ns es bs) (length o₀)
+    pub metric-ask : Piece metric_table (MetricFits s (Row.nth ns 6 - 1)) (metric_bytes s) past_header T (length o₀)
     metric-ask =
         pair-first metric_table (MetricFits s n) (metric_bytes s) (joined flatten_item) (Counted k FineItem) (flat encode_item) metric_unique
-        (list_unique flatten_item FineItem item_unique k) past_header (table_of ns es bs) o₀ body-piece
+        (list_unique flatten_item FineItem item_unique k) past_header T o₀ body-piece
 
     module _ (o₁ : List ℕ) (d : Cursor)
-        (one : Emitted metric_table (MetricFits s (get_or ns (c.number + 6) 0 - 1)) (metric_bytes s) past_header (table_of ns es bs) o₀ o₁ d) where
-      items-piece : Piece (joined flatten_item) (Counted k FineItem) (flat encode_item) d (table_of ns es bs) (length o₁)
-      items-piece =
+        (one : Emitted metric_table (MetricFits s (Row.nth ns 6 - 1)) (metric_bytes s) past_header T o₀ o₁ d) where
+      pub items-ask : Piece (joined flatten_item) (Counted (Row.nth ns 7) FineItem) (flat encode_item) d T (length o₁)
+      items-ask =
           pair-second metric_table (MetricFits s n) (metric_bytes s) (joined flatten_item) (Counted k FineItem) (flat encode_item) metric_unique
-          (list_unique flatten_item FineItem item_unique k) past_header (table_of ns es bs) o₀ body-piece o₁ d one
-
-      pub items-ask : Piece (joined flatten_item) (Counted (get_or ns (c.number + 7) 0) FineItem) (flat encode_item) (no_elements d) (table_of ns [] bs) (length o₁)
-      items-ask = flat-ask ns es bs d (length o₁) k items-piece
+          (list_unique flatten_item FineItem item_unique k) past_header T o₀ body-piece o₁ d one
 
       module _ (o₂ : List ℕ) (e : Cursor)
-          (two : Emitted (joined flatten_item) (Counted (get_or ns (c.number + 7) 0) FineItem) (flat encode_item) (no_elements d) (table_of ns [] bs) o₁ o₂ e) where
-        abbrev end : Cursor
-        end = record { number = e.number; element = d.element; byte = e.byte; out = e.out }
-
+          (two : Emitted (joined flatten_item) (Counted (Row.nth ns 7) FineItem) (flat encode_item) d T o₁ o₂ e) where
         both : Emitted (pair_table metric_table (joined flatten_item)) (Both (MetricFits s n) (Counted k FineItem))
             (pair_bytes (metric_bytes s) (flat encode_item)) past_header
-            (table_of ns es bs) o₀ o₂ end
+            T o₀ o₂ e
         both =
             pair_done metric_table (MetricFits s n) (metric_bytes s) (joined flatten_item) (Counted k FineItem) (flat encode_item) metric_unique
-            (list_unique flatten_item FineItem item_unique k) past_header (table_of ns es bs) o₀ body-piece o₁ d one o₂ end
-            (flat_did ns es bs d (length o₁) k items-piece o₁ o₂ e two)
+            (list_unique flatten_item FineItem item_unique k) past_header T o₀ body-piece o₁ d one o₂ e two
 
-        did : (end ≡ moved past_header (join (metric_table inside) its) body) × (o₂ ≡ sets o₀ (c.out + 32) body)
+        did : (e ≡ moved past_header (join (metric_table inside) its) body) × (o₂ ≡ sets o₀ (c.place + 32) body)
         did =
             let q = both.all (inside, r.items) p.rest body-fits inside_is in
             let b : metric_bytes s inside ++ flat encode_item r.items ≡ body = ap₂ (λ x y. x ++ y) metric_is semantics-is in
-            (q.0 ∙ ap (λ x. moved past_header (join (metric_table inside) its) x) b, q.1 ∙ ap (λ x. sets o₀ (c.out + 32) x) b)
+            (q.0 ∙ ap (λ x. moved past_header (join (metric_table inside) its) x) b, q.1 ∙ ap (λ x. sets o₀ (c.place + 32) x) b)
 
-        middle : d.out ≡ c.out + 32 + metric
+        middle : d.place ≡ c.place + 32 + metric
         middle =
-            ap (λ (z : Cursor). z.out)
+            ap (λ (z : Cursor). z.place)
             (one.all inside (join its p.rest) body-fits.0 (sym (join_assoc (metric_table inside) its p.rest) ∙ inside_is)).0
-            ∙ ap (λ (x : List ℕ). c.out + 32 + length x) metric_is
+            ∙ ap (λ (x : List ℕ). c.place + 32 + length x) metric_is
 
-        last : e.out ≡ c.out + 32 + metric + semantics
-        last = let q = ap (λ (z : Cursor). z.out) did.0 in omega (arith, q, length-append (encode_metric r) (encode_semantics r))
+        last : e.place ≡ c.place + 32 + metric + semantics
+        last = let q = ap (λ (z : Cursor). z.place) did.0 in omega (arith, q, length-append (encode_metric r) (encode_semantics r))
 
-        pub record_lengths : (c.out + 32 ≤ d.out) × (d.out ≤ e.out)
+        pub record_lengths : (c.place + 32 ≤ d.place) × (d.place ≤ e.place)
         record_lengths = omega (arith, middle, last)
 
-        lengths_are : (d.out - (c.out + 32) ≡ metric) × (e.out - d.out ≡ semantics)
+        lengths_are : (d.place - (c.place + 32) ≡ metric) × (e.place - d.place ≡ semantics)
         lengths_are = omega (arith, middle, last)
 
-        pub header_asks : (c.out + 32 ≤ length o₂) × (32 + (d.out - (c.out + 32)) + (e.out - d.out) < 2 ^ 32)
+        pub header_asks : (c.place + 32 ≤ length o₂) × (32 + (d.place - (c.place + 32)) + (e.place - d.place) < 2 ^ 32)
         header_asks =
-            let l : length o₂ ≡ length o₀ = ap length did.1 ∙ length-sets o₀ (c.out + 32) body in
-            let room = p.room.out in
+            let l : length o₂ ≡ length o₀ = ap length did.1 ∙ length-sets o₀ (c.place + 32) body in
+            let room = p.room.place in
             let small = p.fine.total in
             (omega (arith, l, room, length_record r), omega (arith, small, length_record r, lengths_are))
 
-        pub record_did : (o₃ : List ℕ) → o₃ ≡ sets o₂ c.out (header_of (drop c.number ns) (d.out - (c.out + 32)) (e.out - d.out))
-            → Emitted flatten_record FineRecord encode_record c (table_of ns es bs) o₀ o₃
-            (record { number = e.number; element = d.element; byte = e.byte; out = e.out })
+        pub record_did : (o₃ : List ℕ) → o₃ ≡ sets o₂ c.place (header_of ns (d.place - (c.place + 32)) (e.place - d.place))
+            → Emitted flatten_record FineRecord encode_record c T o₀ o₃ e
         record_did o₃ h =
-            let h1 : o₃ ≡ sets o₂ c.out header = h ∙ rw (lengths_are.0, lengths_are.1, header_is) refl in
-            let long : c.out + length header ≡ c.out + 32 = ap (λ x. c.out + x) (length-header r metric semantics) in
-            let w : o₃ ≡ sets o₀ c.out (encode_record r) =
-            h1 ∙ rw did.1 (sets_swap o₀ c.out (c.out + 32) header body (omega (arith, long)))
-            ∙ ap (λ x. sets (sets o₀ c.out header) x body) (sym long)
-            ∙ sym (sets_append o₀ c.out header body)
-            ∙ ap (λ x. sets o₀ c.out x) (sym record_is) in
-            let m : end ≡ moved c (flatten_record r) (encode_record r) =
+            let h1 : o₃ ≡ sets o₂ c.place header = h ∙ rw (lengths_are.0, lengths_are.1, header_is) refl in
+            let long : c.place + length header ≡ c.place + 32 = ap (λ x. c.place + x) (length-header r metric semantics) in
+            let w : o₃ ≡ sets o₀ c.place (encode_record r) =
+            h1 ∙ rw did.1 (sets_swap o₀ c.place (c.place + 32) header body (omega (arith, long)))
+            ∙ ap (λ x. sets (sets o₀ c.place header) x body) (sym long)
+            ∙ sym (sets_append o₀ c.place header body)
+            ∙ ap (λ x. sets o₀ c.place x) (sym record_is) in
+            let m : e ≡ moved c (flatten_record r) (encode_record r) =
             did.0
             ∙ ap (λ z. moved z (join (metric_table inside) its) body) (sym past_is)
             ∙ moved_twice c (flatten_header r) (join (metric_table inside) its) header body
             ∙ ap₂ (λ t x. moved c t x) (sym table_is) (sym record_is) in
-            emitted flatten_record FineRecord encode_record record_unique c (table_of ns es bs) o₀ o₃ end r p.rest p.fine p.is m w
+            emitted flatten_record FineRecord encode_record record_unique c T o₀ o₃ e r p.rest p.fine p.is m w

@@ -5,4 +5,4 @@ use Rattle.laws.proofs.Codings.{only_one}
 use Rattle.codings.proofs.characters.lacks.Goals as goal
 
 pub returns : goal.returns
-returns c = sym (only_one _ _ (omega arith))
+returns c = sym (only_one 1 _ (omega arith))

@@ -9,9 +9,9 @@ use Rattle.fields.proofs.flags.plain.Goals as goal
 
 pub returns : goal.returns
 returns c = λ h.
-    let b20 = c.args.b20 in
-    let b21 = c.args.b21 in
-    let b22 = c.args.b22 in
+    let b20 = c.args.bytes.byte20 in
+    let b21 = c.args.bytes.byte21 in
+    let b22 = c.args.bytes.byte22 in
     let both = both_true (leb b20 5 && (ltb b21 8 && eqb (b21 % 2) 0)) (ltb b22 8 && eqb (b22 % 2) 0) h in
     let first = both_true (leb b20 5) (ltb b21 8 && eqb (b21 % 2) 0) both.0 in
     let second = both_true (ltb b21 8) (eqb (b21 % 2) 0) first.1 in

@@ -1,14 +1,10 @@
--- The loop keeps: the sum and the total of the bytes left make the total of all, and at most 255 a byte within a piece it fits 32 bits.
-use Prim.Native.Nat.{◌+◌, ◌-◌, ◌*◌, ◌≤◌}
+-- The loop keeps: the sum and the total of the bytes left make the total of all, and it is at most 255 a byte.
+use Prim.Native.Nat.{◌+◌, ◌*◌, ◌≤◌}
 use mathlib.Core.Path.{◌≡◌}
-use native.Mathlib.Omega.{arith}
 use lib.ListN.{length, drop}
 use Rattle.layout.specs.Bytes.{total}
-use Rattle.fields.proofs.Laws.Lists.{total_step, total-end}
 use Rattle.fields.proofs.sums.few.Given as goal
 
-abbrev pub invariant-loop-i : goal.invariant-loop-i
-invariant-loop-i l = (l.i ≤ length l.s) × (l.sum + total (drop l.i l.s) ≡ total l.s) × (l.sum ≤ 255 * l.i)
-
-abbrev pub decreases-loop-i : goal.decreases-loop-i
-decreases-loop-i l = length l.s - l.i
+abbrev pub invariant-loop-byte : goal.invariant-loop-byte
+invariant-loop-byte l =
+    (l.byte-index ≤ length l.s) × (l.sum + total (drop l.byte-index l.s) ≡ total l.s) × (l.sum ≤ 255 * l.byte-index)

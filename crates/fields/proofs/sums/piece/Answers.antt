@@ -1,25 +1,17 @@
-use Prim.Native.Nat.{◌+◌, ◌-◌, ◌*◌, ◌≤◌}
-use mathlib.Core.Path.{◌≡◌, ap}
+use mathlib.Core.Path.{◌≡◌, ap, ◌∙◌}
+use Prim.Native.Nat.{◌+◌, ◌*◌, ◌/◌}
+use mathlib.Core.List.{[]}
 use native.Mathlib.Omega.{arith}
-use lib.ListN.{length, drop, length-drop}
+use lib.ListN.{length, drop, get_or}
 use Rattle.layout.specs.Bytes.{total}
+use Rattle.fields.proofs.Laws.Lists.{chunk-there, total_on}
 use Rattle.fields.proofs.sums.piece.Goals as goal
 
-pub block-sum-requires : goal.block-sum-requires
-block-sum-requires c = omega arith
-
-pub few-requires : goal.few-requires
-few-requires c =
-    rw c.rest.ensures (omega (arith, length-drop c.loop-at.at c.args.s.now))
-
-pub overflow_add-result : goal.overflow_add-result
-overflow_add-result c =
-    let at = c.loop-at.at in
+pub loop-bytes-preserved : goal.loop-bytes-preserved
+loop-bytes-preserved c =
+    let i = c.loop-bytes.bytes-index in
     let s = c.args.s.now in
-    omega (arith, ap length c.rest.ensures, length-drop at s)
-
-pub returns : goal.returns
-returns c =
-    let at = c.loop-at.at in
-    let s = c.args.s.now in
-    omega (arith, ap length c.rest.ensures, ap total c.rest.ensures, length-drop at s)
+    let next : (i + 1) * 64 ≡ i * 64 + 64 = omega arith in
+    let n = length s / 64 in
+    let there = ap (λ l. total (get_or l i [])) c.as_chunks.ensures.front ∙ ap total (chunk-there 64 n s i [] (omega (arith, c.as_chunks.ensures.front_len))) in
+    omega (arith, there, total_on s (i * 64) 64, ap (λ n. total (drop n s)) next)

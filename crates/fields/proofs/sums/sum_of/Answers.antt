@@ -1,33 +1,16 @@
-use Prim.Native.Nat.{◌+◌, ◌-◌, ◌*◌, ◌≤◌}
-use mathlib.Core.Path.{◌≡◌, ap}
+use mathlib.Core.Path.{ap, ◌∙◌}
 use native.Mathlib.Omega.{arith}
-use lib.ListN.{length, drop}
+use lib.ListN.{length, length-append}
+use Rattle.laws.proofs.Base.Numbers.{total_append}
 use Rattle.layout.specs.Bytes.{total}
-use Rattle.fields.proofs.Laws.Lists.{part_length, total_on, total-end}
+use Rattle.std.specs.Slice.Iter.{chunks_rest}
 use Rattle.fields.proofs.sums.sum_of.Goals as goal
 
-pub overflow_add-sum : goal.overflow_add-sum
-overflow_add-sum c =
-    let long : length c.part.result.now ≡ c.piece_length-n.result =
-    let s = c.args.s.now in
-    omega (arith, ap length c.part.ensures, part_length s c.loop-at.at c.piece_length-n.result (omega arith)) in
-    omega (arith, long)
-
-pub loop-at-preserved : goal.loop-at-preserved
-loop-at-preserved c =
-    let long : length c.part.result.now ≡ c.piece_length-n.result =
-    let s = c.args.s.now in
-    omega (arith, ap length c.part.ensures, part_length s c.loop-at.at c.piece_length-n.result (omega arith)) in
-    let s = c.args.s.now in
-    omega (arith, long, ap total c.part.ensures, total_on s c.loop-at.at c.piece_length-n.result)
-
-pub returns : goal.returns
-returns c =
-    omega (arith, total-end c.args.s.now c.loop-at.at (omega arith))
-
-pub piece-requires : goal.piece-requires
-piece-requires c =
-    let long : length c.part.result.now ≡ c.piece_length-n.result =
-    let s = c.args.s.now in
-    omega (arith, ap length c.part.ensures, part_length s c.loop-at.at c.piece_length-n.result (omega arith)) in
-    omega (arith, long)
+pub loop-bytes-preserved : goal.loop-bytes-preserved
+loop-bytes-preserved c =
+    let one = c.in-Some.bytes.now in
+    let rest = chunks_rest c.next.new.self in
+    let steps = c.in-Some.ensures.steps in
+    let summed = ap total steps.1.0 ∙ total_append one rest in
+    let long = ap (λ l. length l) steps.1.0 ∙ length-append one rest in
+    (steps.0 ∙ c.loop-bytes.invariant.0, omega (arith, summed), omega (arith, long))

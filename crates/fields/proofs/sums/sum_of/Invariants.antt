@@ -1,14 +1,12 @@
--- The loop keeps: the sum and the total from here on make the total of all; a piece a turn (contract of `piece`, `total_on`), until nothing is left.
-use Prim.Native.Nat.{◌+◌, ◌-◌, ◌*◌, ◌≤◌}
-use mathlib.Core.Path.{◌≡◌, ap}
-use native.Mathlib.Omega.{arith}
-use lib.ListN.{length, drop}
+-- The loop keeps: the sum and the total of what the chunks have left make the total of all; a piece a turn (contract of `piece`).
+use Prim.Native.Nat.{◌+◌, ◌*◌, ◌≤◌}
+use mathlib.Core.Path.{◌≡◌}
+use lib.ListN.{length}
 use Rattle.layout.specs.Bytes.{total}
-use Rattle.fields.proofs.Laws.Lists.{part_length, total_on, total-end}
+use Rattle.std.specs.Slice.Iter.{chunks_rest, chunks_size}
 use Rattle.fields.proofs.sums.sum_of.Given as goal
 
-abbrev pub invariant-loop-at : goal.invariant-loop-at
-invariant-loop-at l = (l.at ≤ length l.s) × (l.sum + total (drop l.at l.s) ≡ total l.s) × (l.sum ≤ 255 * l.at)
-
-abbrev pub decreases-loop-at : goal.decreases-loop-at
-decreases-loop-at l = length l.s - l.at
+abbrev pub invariant-loop-bytes : goal.invariant-loop-bytes
+invariant-loop-bytes l =
+    (chunks_size l.bytes-iterator ≡ 16777216) × (l.sum + total (chunks_rest l.bytes-iterator) ≡ total l.s)
+    × (l.sum + 255 * length (chunks_rest l.bytes-iterator) ≤ 255 * length l.s)

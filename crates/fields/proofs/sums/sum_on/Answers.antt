@@ -4,16 +4,7 @@ use native.Mathlib.Omega.{arith}
 use lib.ListN.{length}
 use Rattle.layout.specs.Bytes.{total}
 use Rattle.fields.proofs.Laws.Lists.{part_length, total_on}
-use borrow.Author.Rules.{rules}
 use Rattle.fields.proofs.sums.sum_on.Goals as goal
-
-pub sum_of-requires : goal.sum_of-requires
-sum_of-requires c =
-    omega (arith, ap length c.part.ensures, part_length c.args.s.now c.args.so_far.to c.args.n c.requires.1)
-
-pub overflow_add-result : goal.overflow_add-result
-overflow_add-result c =
-    omega (arith, ap length c.part.ensures, part_length c.args.s.now c.args.so_far.to c.args.n c.requires.1)
 
 pub returns : goal.returns
 returns c =

@@ -1,26 +1,13 @@
-use Prim.Native.Nat.{◌+◌, ◌-◌, ◌≤◌}
-use mathlib.Core.Path.{◌≡◌, refl}
-use native.Mathlib.Omega.{arith}
-use lib.ListN.{length, drop}
-use Rattle.layout.specs.Bytes.{zeros}
-use Rattle.fields.proofs.Laws.Lists.{zeros_other, zeros-more, zeros-end}
+-- `all` says of the bytes what `zeros` says (`zeros-told`).
+use mathlib.Core.Path.{◌≡◌}
+use borrow.Author.Rules.{rules}
+use borrow.Author.Tests.{tests}
+use Rattle.std.proofs.lemmas.Iterator.{cases_from_all, YieldsList-from_slice}
+use Rattle.fields.proofs.Laws.Lists.{zeros-told}
 use Rattle.fields.proofs.texts.all_zero.Goals as goal
-
-pub loop-i-init : goal.loop-i-init
-loop-i-init c = (omega arith, refl)
-
-pub returns-then-s-i-ne0 : goal.returns-then-s-i-ne0
-returns-then-s-i-ne0 c =
-    let i = c.loop-i.i in
-    let s = c.args.s.now in
-    cc (zeros_other s i (omega arith) c.if-s-i-ne0.true)
-
-pub loop-i-preserved : goal.loop-i-preserved
-loop-i-preserved c =
-    let i = c.loop-i.i in
-    let s = c.args.s.now in
-    (omega arith, cc (zeros-more s i (omega arith) c.if-s-i-ne0.false))
 
 pub returns : goal.returns
 returns c =
-    cc (zeros-end c.args.s.now c.loop-i.i (omega arith))
+    zeros-told c.args.s.now c.all.result
+    (cases_from_all _ _ _ (λ x. x ≡ 0) (λ x. x ≡ 0 → ⊥) c.all.ensures.ran (YieldsList-from_slice c.args.s.now c.iter.ensures.rest)
+    (λ x q k. search (rules, tests)) (λ x q k. search (rules, tests)))

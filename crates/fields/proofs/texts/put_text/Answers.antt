@@ -1,6 +1,5 @@
 -- The bytes of the text and the zeros up to the width are written one after the other, which is one write of both (`text-zeros`).
 use Rattle.fields.proofs.Laws.Store.{text-zeros}
-use borrow.Author.Rules.{rules}
 use Rattle.fields.proofs.texts.put_text.Goals as goal
 
 pub returns : goal.returns

@@ -1,15 +1,17 @@
-use Prim.Native.Nat.{◌-◌}
-use native.Mathlib.Omega.{arith}
+-- The part that is written holds n zeros (`part_wrote`), as many as it had bytes.
+use mathlib.Core.Path.{ap, ◌∙◌}
+use Prim.Native.Nat.{ℕ}
+use native.Mathlib.Nat.{add-sub_cancel_left}
+use lib.ListN.{length, take, drop, replicate, length-replicate}
+use Rattle.fields.proofs.Laws.Lists.{part_length}
+use Rattle.fields.proofs.Laws.Put.{part_wrote}
 use borrow.Author.Rules.{rules}
-use Rattle.fields.proofs.Laws.Put.{copy_start}
-use Rattle.fields.proofs.Laws.Store.{Clearing, clear_turn, clear_done}
 use Rattle.fields.proofs.texts.put_zeros.Goals as goal
 
-pub loop-i-init : goal.loop-i-init
-loop-i-init c = copy_start _ _ _ _ _
-
-pub loop-i-preserved : goal.loop-i-preserved
-loop-i-preserved c = clear_turn _ _ _ _ _ c.loop-i.invariant (omega arith)
-
 pub returns : goal.returns
-returns c = clear_done _ _ _ _ _ c.loop-i.invariant (omega arith)
+returns c =
+    let n = c.args.n in
+    let w = c.args.w in
+    let room = ap (λ (k : ℕ). length (take k (drop w c.args.out.now))) (add-sub_cancel_left w n) ∙ part_length c.args.out.now w n c.requires in
+    let filled = c.fill.ensures.after (λ y e. search rules) ∙ ap (λ (k : ℕ). replicate {A = ℕ} k 0) room in
+    part_wrote _ _ (replicate n 0) w _ n filled (add-sub_cancel_left w n) (length-replicate {A = ℕ} n 0) c.requires

@@ -3,7 +3,6 @@ use Prim.Native.Nat.{ℕ}
 use lib.ListN.{drop}
 use mathlib.Core.Path.{◌≡◌, ap, ◌∙◌}
 use native.Mathlib.Omega.{arith}
-use borrow.Author.Rules.{rules}
 use Rattle.layout.specs.Bytes.{zeros}
 use Rattle.layout.specs.Shared.Texts.{tail_of, is_clean}
 use Rattle.laws.proofs.Base.Texts.{text-short, tail-zeros}

@@ -1,23 +1,14 @@
-use Prim.Native.Nat.{◌+◌, ◌-◌, ◌≤◌}
-use mathlib.Core.Path.{◌≡◌}
-use native.Mathlib.Omega.{arith}
-use lib.ListN.{length, drop}
-use Rattle.layout.specs.Shared.Texts.{text_of}
-use Rattle.fields.proofs.Laws.Lists.{text_zero, text-more, text-end}
+-- The place of the first zero, or the length where there is none, is how long the text is (`text-found`).
+use mathlib.Core.Path.{◌≡◌, ◌∙◌}
+use borrow.Author.Rules.{rules}
+use borrow.Author.Tests.{tests}
+use Rattle.std.proofs.lemmas.Iterator.{IsFirst-from_position, YieldsList-from_slice}
+use Rattle.fields.proofs.Laws.Lists.{text-found}
 use Rattle.fields.proofs.texts.text_length.Goals as goal
-
-pub returns-then-s-i-eq0 : goal.returns-then-s-i-eq0
-returns-then-s-i-eq0 c =
-    let i = c.loop-i.i in
-    let s = c.args.s.now in
-    omega (arith, text_zero s i (omega arith) c.if-s-i-eq0.true)
-
-pub loop-i-preserved : goal.loop-i-preserved
-loop-i-preserved c =
-    let i = c.loop-i.i in
-    let s = c.args.s.now in
-    omega (arith, text-more s i (omega arith) c.if-s-i-eq0.false)
 
 pub returns : goal.returns
 returns c =
-    omega (arith, text-end c.args.s.now c.loop-i.i (omega arith))
+    c.unwrap_or.ensures
+    ∙ text-found c.args.s.now c.position.result
+    (IsFirst-from_position _ _ _ (λ x. x ≡ 0) (λ x. x ≡ 0 → ⊥) c.position.ensures.ran (YieldsList-from_slice c.args.s.now c.iter.ensures.rest)
+    (λ x q k. search (rules, tests)) (λ x q k. search (rules, tests)))

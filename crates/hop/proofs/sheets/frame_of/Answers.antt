@@ -1,7 +1,8 @@
--- As `first_with`, with the code that stands in the passport (contract of `u32_at`).
+-- As `first_with`, with the code that stands in the passport (contract of `numbers::at`).
 use lib.ListN.{length}
-use mathlib.Core.Path.{ap, sym, ◌∙◌}
+use mathlib.Core.Path.{◌≡◌, ap, sym, ◌∙◌}
 use Prim.Native.Nat.{◌≤◌}
+use borrow.Author.Rules.{rules}
 use native.Mathlib.Omega.{arith}
 use Rattle.hop.proofs.Laws.Checks.{started}
 use Rattle.hop.proofs.Laws.Headers.{start_on, start-refused}
@@ -11,30 +12,29 @@ use Rattle.layout.specs.Fields.Passport
 use Rattle.layout.specs.Fields.{limit}
 use Rattle.layout.specs.Hop.{hop, frame}
 use Rattle.layout.specs.Reading.Sheets.{start}
+use Rattle.std.specs.Prelude.{Err}
 use Rattle.hop.proofs.sheets.frame_of.Goals as goal
 
-pub u32_at-requires : goal.u32_at-requires
-u32_at-requires c =
+pub at-requires : goal.at-requires
+at-requires c =
     let let_through : let s = c.args.s.now in (start ≤ length s) × (length s ≤ limit) =
-    started c.args.s.now c.check_start.result c.check_start.ensures c.in-Fine.is in
+    started c.args.s.now c.check_start.result c.check_start.ensures c.in_ok-check_start.was in
     omega (arith, let_through.0)
 
 pub hop_on-requires : goal.hop_on-requires
-hop_on-requires c =
-    let let_through : let s = c.args.s.now in (start ≤ length s) × (length s ≤ limit) =
-    started c.args.s.now c.check_start.result c.check_start.ensures c.in-Fine.is in
-    let_through
+hop_on-requires c = started c.args.s.now c.check_start.result c.check_start.ensures c.in_ok-check_start.was
 
-pub returns-in-Fine : goal.returns-in-Fine
+pub returns : goal.returns
 unfolding frame
-returns-in-Fine c =
+returns c =
     let s = c.args.s.now in
     c.hop_on.ensures
-    ∙ sym (ap hopped_of (start_on c.u32_at.result s c.check_start.result c.check_start.ensures c.in-Fine.is))
-    ∙ ap (λ w. hopped_of (hop w s)) c.u32_at.ensures
+    ∙ sym (ap hopped_of (start_on c.at.result s c.check_start.result c.check_start.ensures c.in_ok-check_start.was))
+    ∙ ap (λ w. hopped_of (hop w s)) c.at.ensures
 
-pub returns-in-Refused : goal.returns-in-Refused
+pub returns-in_err-check_start : goal.returns-in_err-check_start
 unfolding frame
-returns-in-Refused c =
+returns-in_err-check_start c =
+    let e : c.from_residual.result ≡ Err c.in_err-check_start.field-0.0 = search rules in
     let s = c.args.s.now in
-    start-refused (number_in Passport.frame s) s c.check_start.result c.check_start.ensures _ c.in-Refused.is
+    rw e (start-refused (number_in Passport.frame s) s c.check_start.result c.check_start.ensures _ c.in_err-check_start.was)

@@ -5,7 +5,7 @@ use Prim.Native.Nat.{ℕ}
 use lib.ListN.{length, drop, length-drop}
 use native.Mathlib.Omega.{arith}
 use Rattle.fields.proofs.Laws.Lists.{part_length}
-use Rattle.index.proofs.Laws.Blocks.{good-short, at_count, at_most, at-is}
+use Rattle.index.proofs.Laws.Blocks.{good-short, at_count, at-is}
 use Rattle.index.proofs.blocks.good_block.Goals as goal
 
 pub returns-then-left-lt-SIZE : goal.returns-then-left-lt-SIZE
@@ -19,19 +19,9 @@ pub returns-then-not-good_count : goal.returns-then-not-good_count
 returns-then-not-good_count c =
     let index : List ℕ =
     c.args.index.now in
-    at_count c.args.kind c.args.number index c.args.at c.u16_at-count.result
-    c.u16_at-count.ensures c.good_count.result
+    at_count c.args.kind c.args.number index c.args.at c.at-count.result
+    c.at-count.ensures c.good_count.result
     c.good_count.ensures c.if-not-good_count.true
-
-pub unused_zero-filled-requires : goal.unused_zero-filled-requires
-unused_zero-filled-requires c =
-    let index : List ℕ =
-    c.args.index.now in (
-      omega arith,
-      at_most c.args.kind c.args.number index c.args.at c.u16_at-count.result
-          c.u16_at-count.ensures c.good_count.result
-          c.good_count.ensures c.if-not-good_count.false,
-    )
 
 pub sum_of-sum-requires : goal.sum_of-sum-requires
 sum_of-sum-requires c =
@@ -43,10 +33,10 @@ pub returns : goal.returns
 returns c =
     let index : List ℕ =
     c.args.index.now in
-    at-is c.args.kind c.args.number index c.args.at c.u16_at-count.result
-    c.u16_at-count.ensures c.good_count.result
-    c.good_count.ensures c.if-not-good_count.false (omega arith) c.u16_at.result c.u16_at.ensures
-    c.unused_zero-filled.result c.unused_zero-filled.ensures c.u16_at-2.result c.ending_is.result
-    c.u16_at-2.ensures c.ending_is.ensures
-    c.u16_at-3.result c.sum_of-sum.result c.part.result.now c.u16_at-3.ensures c.sum_of-sum.ensures.0
+    at-is c.args.kind c.args.number index c.args.at c.at-count.result
+    c.at-count.ensures c.good_count.result
+    c.good_count.ensures c.if-not-good_count.false (omega arith) c.at.result c.at.ensures
+    c.unused_zero-filled.result c.unused_zero-filled.ensures c.at-2.result c.ending_is.result
+    c.at-2.ensures c.ending_is.ensures
+    c.at-3.result c.sum_of-sum.result c.part.result.now c.at-3.ensures c.sum_of-sum.ensures.0
     c.part.ensures

@@ -13,5 +13,5 @@ returns c =
       next = c.put_unsummed-after.ensures.next;
       written = block_put c.args.number (hopped n c.args.first s) c.args.out.now c.args.w
           (omega (arith, hopped-length n c.args.first s, c.requires.1)) c.requires.3 _ _ c.sum_of-sum.result
-          c.put_unsummed-after.ensures.written c.sum_of-sum.ensures.0 c.put_u16.ensures;
+          c.put_unsummed-after.ensures.written c.sum_of-sum.ensures.0 c.put.ensures;
     }

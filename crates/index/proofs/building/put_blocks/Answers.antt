@@ -3,7 +3,7 @@ use mathlib.Core.Path.{◌≡◌, refl, sym, subst}
 use Prim.Native.Nat.{ℕ, ◌+◌, ◌-◌}
 use native.Mathlib.Omega.{arith}
 use Rattle.index.specs.Hopped.{hopped, place_after}
-use Rattle.index.proofs.Laws.Built.{blocks-length, few-records, full-fits, full_on, last_fits, last_done, last_same, none_done}
+use Rattle.index.proofs.Laws.Built.{blocks-length, few-records, full-fits, full_on, last_fits, last_done, none_done}
 use Rattle.index.proofs.Laws.Hopped.{hops_split}
 use Rattle.index.proofs.Laws.Writing.{start}
 use Rattle.layout.specs.Index.Blocks.{begun}
@@ -54,12 +54,6 @@ put_block-requires c =
       last_fits c.loop-left.number c.loop-left.left c.loop-left.at sheet _ _ _ c.loop-left.invariant.2 (omega arith) (omega arith),
     )
 
-pub shape_of-out-then-left-gt0 : goal.shape_of-out-then-left-gt0
-shape_of-out-then-left-gt0 c =
-    let sheet : List ℕ =
-    c.args.s.now in
-    last_same c.loop-left.number c.loop-left.left c.loop-left.at sheet _ _ _ c.loop-left.invariant.2 _ c.put_block.ensures.written
-
 pub returns-then-left-gt0 : goal.returns-then-left-gt0
 returns-then-left-gt0 c =
     let sheet : List ℕ =
@@ -67,20 +61,8 @@ returns-then-left-gt0 c =
     last_done c.loop-left.number c.loop-left.left c.loop-left.at sheet _ _ _ c.loop-left.invariant.2 (omega arith) (omega arith) _
     c.put_block.ensures.written
 
-pub shape_of-out-else-left-gt0 : goal.shape_of-out-else-left-gt0
-shape_of-out-else-left-gt0 c = c.loop-left.invariant.2.same
-
 pub returns-else-left-gt0 : goal.returns-else-left-gt0
 returns-else-left-gt0 c =
     let sheet : List ℕ =
     c.args.s.now in
     none_done c.loop-left.number c.loop-left.left c.loop-left.at sheet _ _ _ c.loop-left.invariant.2 (omega arith)
-
-pub overflow_mul-number : goal.overflow_mul-number
-overflow_mul-number c = omega (arith, c.loop-left.invariant.1)
-
-pub overflow_add-number : goal.overflow_add-number
-overflow_add-number c = omega (arith, c.loop-left.invariant.1)
-
-pub overflow_mul-number-then-left-gt0 : goal.overflow_mul-number-then-left-gt0
-overflow_mul-number-then-left-gt0 c = omega (arith, c.loop-left.invariant.1)

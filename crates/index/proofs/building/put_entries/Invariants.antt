@@ -1,6 +1,6 @@
 -- `Writing`: what is put and the entries that are left make up the whole; one record a turn.
 use mathlib.Core.Path.{◌≡◌}
-use Prim.Native.Nat.{◌-◌, ◌≤◌}
+use Prim.Native.Nat.{◌-◌}
 use Rattle.index.specs.Hopped.{hopped, place_after}
 use Rattle.reading.specs.Found.{Hops}
 use Rattle.index.proofs.Laws.Writing.{Writing}
@@ -9,10 +9,7 @@ use Rattle.layout.specs.Index.Blocks.{encode_entry}
 use Rattle.layout.specs.declared.BlockKind.TheVariants.{New}
 use Rattle.index.proofs.building.put_entries.Given as goal
 
-abbrev pub invariant-loop-i : goal.invariant-loop-i
-invariant-loop-i l =
-    (l.i ≤ l.n) × Hops (l.n - l.i) l.at l.s × (place_after (l.n - l.i) l.at l.s ≡ place_after l.n l.first l.s)
-    × Writing l.initial.out l.w (flat (encode_entry New) (hopped l.n l.first l.s)) l.out l.to (flat (encode_entry New) (hopped (l.n - l.i) l.at l.s))
-
-abbrev pub decreases-loop-i : goal.decreases-loop-i
-decreases-loop-i l = l.n - l.i
+abbrev pub invariant-loop : goal.invariant-loop
+invariant-loop l =
+    Hops (l.n - l.counter) l.at l.s × (place_after (l.n - l.counter) l.at l.s ≡ place_after l.n l.first l.s)
+    × Writing l.initial.out l.w (flat (encode_entry New) (hopped l.n l.first l.s)) l.out l.to (flat (encode_entry New) (hopped (l.n - l.counter) l.at l.s))

@@ -8,6 +8,6 @@ returns c =
     record {
       next = c.put_entries-after.ensures.next;
       written = unsummed_put c.args.number _ c.args.n (hopped-length c.args.n c.args.first c.args.s.now)
-          c.args.out.now c.args.w _ _ _ _ _ c.requires.1 c.put_u16.ensures c.put_u16-2.ensures
-          c.put_entries-after.ensures.written c.put_zeros.ensures c.put_u16-3.ensures;
+          c.args.out.now c.args.w _ _ _ _ _ c.requires.1 c.put.ensures c.put-2.ensures
+          c.put_entries-after.ensures.written c.put_zeros.ensures c.put-3.ensures;
     }

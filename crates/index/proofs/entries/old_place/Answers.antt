@@ -4,4 +4,4 @@ use Rattle.index.proofs.entries.old_place.Goals as goal
 
 pub returns : goal.returns
 returns c =
-    old-place-read c.args.index.now c.args.p _ _ c.u16_at-low.ensures c.u8_at-high.ensures
+    old-place-read c.args.index.now c.args.p _ _ c.at-low.ensures c.at-high.ensures

@@ -16,44 +16,20 @@ returns-then-not-good_block c =
     let judged : let index = c.args.index.now in c.good_block.result ≡ good_block (file_kind index) c.loop-at.blocks (drop c.loop-at.at index) =
     c.good_block.ensures
     ∙ ap (λ kind. good_block kind c.loop-at.blocks (drop c.loop-at.at c.args.index.now)) c.file_kind-kind.ensures in
-    going_stop c.args.index.now c.loop-at.blocks c.loop-at.entries c.loop-at.at c.loop-at.invariant.3 c.loop-at.invariant.0 (omega arith)
+    c.refused.ensures ∙ going_stop c.args.index.now c.loop-at.blocks c.loop-at.entries c.loop-at.at c.loop-at.invariant.3 c.loop-at.invariant.0 (omega arith)
     (sym c.if-not-good_block.true ∙ judged)
-
-pub overflow_add-at : goal.overflow_add-at
-overflow_add-at c =
-    omega (arith, good_within c.file_kind-kind.result c.loop-at.blocks c.loop-at.at c.args.index.now _ c.good_block.ensures c.if-not-good_block.false)
-
-pub u16_at-requires : goal.u16_at-requires
-u16_at-requires c =
-    omega (arith, good_within c.file_kind-kind.result c.loop-at.blocks c.loop-at.at c.args.index.now _ c.good_block.ensures c.if-not-good_block.false)
-
-pub overflow_add-entries : goal.overflow_add-entries
-overflow_add-entries c =
-    omega (arith, good_within c.file_kind-kind.result c.loop-at.blocks c.loop-at.at c.args.index.now _ c.good_block.ensures c.if-not-good_block.false, good_few c.file_kind-kind.result c.loop-at.blocks c.loop-at.at c.args.index.now _ c.good_block.ensures c.if-not-good_block.false c.u16_at.result c.u16_at.ensures)
-
-pub overflow_add-at-in-loop-at : goal.overflow_add-at-in-loop-at
-overflow_add-at-in-loop-at c =
-    omega (arith, good_within c.file_kind-kind.result c.loop-at.blocks c.loop-at.at c.args.index.now _ c.good_block.ensures c.if-not-good_block.false)
-
-pub overflow_add-blocks : goal.overflow_add-blocks
-overflow_add-blocks c =
-    omega (arith, good_within c.file_kind-kind.result c.loop-at.blocks c.loop-at.at c.args.index.now _ c.good_block.ensures c.if-not-good_block.false)
-
-pub loop-at-smaller : goal.loop-at-smaller
-loop-at-smaller c =
-    omega (arith, good_within c.file_kind-kind.result c.loop-at.blocks c.loop-at.at c.args.index.now _ c.good_block.ensures c.if-not-good_block.false)
 
 pub loop-at-preserved : goal.loop-at-preserved
 loop-at-preserved c =
     let index = c.args.index.now in
     let judged : c.good_block.result ≡ good_block (file_kind index) c.loop-at.blocks (drop c.loop-at.at index) =
     c.good_block.ensures ∙ ap (λ kind. good_block kind c.loop-at.blocks (drop c.loop-at.at index)) c.file_kind-kind.ensures in
-    let count-is : c.u16_at.result ≡ number 2 (drop 2 (drop c.loop-at.at index)) = c.u16_at.ensures ∙ sym (ap (number 2) (drop-drop 2 c.loop-at.at index)) in (
+    let count-is : c.at.result ≡ number 2 (drop 2 (drop c.loop-at.at index)) = c.at.ensures ∙ sym (ap (number 2) (drop-drop 2 c.loop-at.at index)) in (
       omega arith,
       omega (arith, good_within c.file_kind-kind.result c.loop-at.blocks c.loop-at.at c.args.index.now _ c.good_block.ensures c.if-not-good_block.false),
-      omega (arith, good_few c.file_kind-kind.result c.loop-at.blocks c.loop-at.at c.args.index.now _ c.good_block.ensures c.if-not-good_block.false c.u16_at.result c.u16_at.ensures),
+      omega (arith, good_few c.file_kind-kind.result c.loop-at.blocks c.loop-at.at c.args.index.now _ c.good_block.ensures c.if-not-good_block.false c.at.result c.at.ensures),
       going_turn index c.loop-at.blocks c.loop-at.entries c.loop-at.at c.loop-at.invariant.3 c.loop-at.invariant.0 (omega arith)
-          (sym c.if-not-good_block.false ∙ judged) c.u16_at.result count-is,
+          (sym c.if-not-good_block.false ∙ judged) c.at.result count-is,
     )
 
 pub returns : goal.returns

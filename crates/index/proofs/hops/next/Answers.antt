@@ -1,14 +1,9 @@
 -- The total length stands in the header.
 use mathlib.Core.Path.{ap}
 use Prim.Native.Nat.{◌+◌}
-use native.Mathlib.Omega.{arith}
 use Rattle.fields.specs.Headers.{header_of}
 use Rattle.layout.specs.Reading.Records.{Header}
 use Rattle.index.proofs.hops.next.Goals as goal
-
-pub overflow_add-result : goal.overflow_add-result
-unfolding header_of
-overflow_add-result c = omega (arith, ap (λ (h : Header). h.total) c.header_at.ensures)
 
 pub returns : goal.returns
 unfolding header_of

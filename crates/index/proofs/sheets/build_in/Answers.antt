@@ -19,7 +19,7 @@ returns-then-index-n c =
     encode_index New (hopped c.args.count 452 c.args.s.now) in
     let long : 512 * ((c.args.count + 55) / 56) ≡ length whole =
     index_long _ c.args.count (hopped-length c.args.count 452 c.args.s.now) in
-    let both = told_short c.args.index.now whole _ long (omega arith) _ c.no_room.ensures in
+    let both = told_short c.args.index.now whole _ long (omega arith) _ c.refused.ensures in
     record { answers = both.0; written = both.1 }
 
 pub returns : goal.returns

@@ -1,7 +1,54 @@
--- This is the call by year at the year of the setting, so its equations are rewritten by what `year` gives.
+-- The sheet is accepted, so its records follow one another from header to header; or its refusal is the answer.
+use mathlib.Core.List.{List}
+use mathlib.Core.Path.{◌≡◌, ap, sym, ◌∙◌}
+use Prim.Native.Nat.{ℕ}
+use borrow.Author.Rules.{rules}
+use Rattle.std.specs.Prelude.{Err}
+use native.Mathlib.Omega.{arith}
+use Rattle.index.proofs.Laws.Built.{few-records}
+use Rattle.index.proofs.Laws.Hopped.{Read, read}
+use Rattle.index.proofs.Laws.Told.{told_refused, told_given}
+use Rattle.layout.specs.Answers.Calls.{reading}
+use Rattle.layout.specs.Index.Selecting.{each, pick_entry, pick_records, picked}
+use Rattle.layout.specs.Reading.Sheets.{start}
+use Rattle.layout.specs.Sheet.{Sheet}
+use Rattle.laws.proofs.Base.Numbers.{all-bytes}
+use Rattle.laws.proofs.Index.Sheets.{picks_same}
+use Rattle.reading.proofs.Laws.Seen.{seen, refused-is}
 use Rattle.index.proofs.sheets.select.Goals as goal
 
+pub select_in-requires : goal.select_in-requires
+select_in-requires c =
+    let sheet : List ℕ =
+    c.args.s.now in
+    let accepted : (count : ℕ) × Read c.args.setting.year sheet count = (
+      _,
+      read _ sheet _ (all-bytes sheet (λ i. omega (arith, c.type_inv.s i)))
+          (seen _ _ _ _ c.check.ensures c.in_ok-sizes.was),
+    ) in
+    (accepted.1.hops, omega (arith, few-records _ accepted.1.few))
+
 pub returns : goal.returns
+unfolding picked
 returns c =
-    let both = rw c.year.ensures at c.select_by_year.ensures in
-    record { answers = both.answers; written = both.written }
+    let sheet : List ℕ =
+    c.args.s.now in
+    let accepted : (count : ℕ) × Read c.args.setting.year sheet count = (
+      _,
+      read _ sheet _ (all-bytes sheet (λ i. omega (arith, c.type_inv.s i)))
+          (seen _ _ _ _ c.check.ensures c.in_ok-sizes.was),
+    ) in
+    let code = c.args.code in
+    let known = accepted.1 in
+    let both = told_given (reading c.args.setting.year sheet) (λ (t : Sheet). pick_records code 0 start t.records) c.args.picks.now
+    known.sheet known.is _ (sym (ap (each (pick_entry code) 0) known.entries ∙ picks_same code 0 start known.sheet.records)) _ _
+    (c.select_in.ensures.answers, c.select_in.ensures.written) in
+    record { answers = both.0; written = both.1 }
+
+pub returns-in_err-sizes : goal.returns-in_err-sizes
+unfolding picked
+returns-in_err-sizes c =
+    let e : c.from_residual.result ≡ Err c.in_err-sizes.field-0.0 = search rules in
+    let both = told_refused (reading c.args.setting.year c.args.s.now) (λ (t : Sheet). pick_records c.args.code 0 start t.records)
+    c.args.picks.now _ (refused-is _ _ _ _ c.check.ensures c.in_err-sizes.was) in
+    rw e record { answers = both.0; written = both.1 }

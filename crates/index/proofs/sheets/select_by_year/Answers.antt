@@ -1,51 +1,19 @@
--- The sheet is accepted, so its records follow one another from header to header; or its refusal is the answer.
-use mathlib.Core.List.{List}
-use mathlib.Core.Path.{ap, sym, ◌∙◌}
-use Prim.Native.Nat.{ℕ}
-use native.Mathlib.Omega.{arith}
-use Rattle.index.proofs.Laws.Built.{few-records}
-use Rattle.index.proofs.Laws.Hopped.{Read, read}
-use Rattle.index.proofs.Laws.Told.{told_refused, told_given}
+-- The year of the setting made is the one asked for (`known`), and where none is made its refusal is the answer and nothing is written.
+use mathlib.Core.Path.{◌≡◌}
+use borrow.Author.Rules.{rules}
+use Rattle.index.proofs.Laws.Told.{told_refused}
 use Rattle.layout.specs.Answers.Calls.{reading}
-use Rattle.layout.specs.Index.Selecting.{each, pick_entry, pick_records, picked}
+use Rattle.layout.specs.Index.Selecting.{pick_records, picked}
 use Rattle.layout.specs.Reading.Sheets.{start}
 use Rattle.layout.specs.Sheet.{Sheet}
-use Rattle.laws.proofs.Base.Numbers.{all-bytes}
-use Rattle.laws.proofs.Index.Sheets.{picks_same}
-use Rattle.reading.proofs.Laws.Seen.{seen, refused-is}
+use Rattle.reading.proofs.Laws.Settings.{not_read}
+use Rattle.std.specs.Prelude.{Err}
 use Rattle.index.proofs.sheets.select_by_year.Goals as goal
 
-pub select_in-requires : goal.select_in-requires
-select_in-requires c =
-    let sheet : List ℕ =
-    c.args.s.now in
-    let accepted : (count : ℕ) × Read c.args.year sheet count = (
-      _,
-      read _ sheet _ (all-bytes sheet (λ i. omega (arith, c.type_inv.s i)))
-          (seen _ _ _ _ c.check_by_year.ensures c.in-Accepted.is),
-    ) in
-    (accepted.1.hops, omega (arith, few-records _ accepted.1.few))
-
-pub returns-in-Accepted : goal.returns-in-Accepted
+pub returns-in_err-setting : goal.returns-in_err-setting
 unfolding picked
-returns-in-Accepted c =
-    let sheet : List ℕ =
-    c.args.s.now in
-    let accepted : (count : ℕ) × Read c.args.year sheet count = (
-      _,
-      read _ sheet _ (all-bytes sheet (λ i. omega (arith, c.type_inv.s i)))
-          (seen _ _ _ _ c.check_by_year.ensures c.in-Accepted.is),
-    ) in
-    let code = c.args.code in
-    let known = accepted.1 in
-    let both = told_given (reading c.args.year sheet) (λ (t : Sheet). pick_records code 0 start t.records) c.args.picks.now
-    known.sheet known.is _ (sym (ap (each (pick_entry code) 0) known.entries ∙ picks_same code 0 start known.sheet.records)) _ _
-    (c.select_in.ensures.answers, c.select_in.ensures.written) in
-    record { answers = both.0; written = both.1 }
-
-pub returns-in-Refused : goal.returns-in-Refused
-unfolding picked
-returns-in-Refused c =
+returns-in_err-setting c =
+    let e : c.from_residual.result ≡ Err c.in_err-setting.field-0.0 = search rules in
     let both = told_refused (reading c.args.year c.args.s.now) (λ (t : Sheet). pick_records c.args.code 0 start t.records)
-    c.args.picks.now _ (refused-is _ _ _ _ c.check_by_year.ensures c.in-Refused.is) in
-    record { answers = both.0; written = both.1 }
+    c.args.picks.now _ (not_read c.args.year _ _ c.new.ensures c.in_err-setting.was c.args.s.now) in
+    rw e record { answers = both.0; written = both.1 }

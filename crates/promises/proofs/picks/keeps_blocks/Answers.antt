@@ -1,11 +1,6 @@
--- True exactly where the index is accepted, which is where it is blocks (`blocks_accepted`, `blocks-refused`), since the slice is bytes.
-use Rattle.promises.proofs.Index.{blocks_accepted, blocks-refused}
+-- True exactly where the index is accepted, which is where it is blocks (`blocks_kept`), since the slice is bytes.
+use Rattle.promises.proofs.Index.{blocks_kept}
 use Rattle.promises.proofs.picks.keeps_blocks.Goals as goal
 
-pub returns-in-Accepted : goal.returns-in-Accepted
-returns-in-Accepted c =
-    blocks_accepted c.args.index.now c.bytes.ensures _ c.check.ensures _ c.in-Accepted.is
-
-pub returns-in-Refused : goal.returns-in-Refused
-returns-in-Refused c =
-    blocks-refused c.args.index.now c.bytes.ensures _ c.check.ensures _ c.in-Refused.is
+pub returns : goal.returns
+returns c = rw c.is_ok.ensures.value (blocks_kept c.args.index.now c.bytes.ensures _ c.check.ensures)

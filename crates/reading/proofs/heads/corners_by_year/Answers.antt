@@ -1,17 +1,18 @@
--- The check accepted the sheet, so the corners are those of its head (`corners_right`); or the check's refusal is the answer (`corners-refused`).
-use Rattle.reading.proofs.Laws.Seen.{seen}
-use Rattle.reading.proofs.Laws.Asked.{read, corners_right, corners-refused}
+-- The year of the setting made is the one asked for (`known`), and where none is made its refusal is the answer (`not_read`).
+use mathlib.Core.Path.{◌≡◌}
+use mathlib.Core.Path.{refl}
+use Rattle.layout.specs.Answers.Enums.{corners_in}
+use Rattle.meanings.proofs.Laws.Settings.{known}
+use Rattle.reading.proofs.Laws.Settings.{not_read}
+use Rattle.std.specs.Prelude.{Err}
+use borrow.Author.Rules.{rules}
 use Rattle.reading.proofs.heads.corners_by_year.Goals as goal
 
-pub corners_in-requires : goal.corners_in-requires
-corners_in-requires c =
-    read c.args.year c.args.s.now _ (seen _ _ _ _ c.check_by_year.ensures c.in-Accepted.is)
+pub returns : goal.returns
+returns c = rw (known c.args.year _ _ c.new.ensures c.in_ok-setting.was) at c.corners_of.ensures
 
-pub returns-in-Accepted : goal.returns-in-Accepted
-returns-in-Accepted c =
-    corners_right c.args.year c.args.s.now _ (seen _ _ _ _ c.check_by_year.ensures c.in-Accepted.is) _
-    c.corners_in.ensures
-
-pub returns-in-Refused : goal.returns-in-Refused
-returns-in-Refused c =
-    corners-refused c.args.year c.args.s.now _ _ c.check_by_year.ensures c.in-Refused.is
+pub returns-in_err-setting : goal.returns-in_err-setting
+unfolding corners_in
+returns-in_err-setting c =
+    let e : c.from_residual.result ≡ Err c.in_err-setting.field-0.0 = search rules in
+    rw (e, not_read c.args.year _ _ c.new.ensures c.in_err-setting.was c.args.s.now) refl

@@ -1,5 +1,21 @@
--- This is the call by year at the year of the setting, so its equation is rewritten by what `year` gives.
+-- The check accepted the sheet, so the unit is that of the head read from it (`unit_right`); or the check's refusal is the answer.
+use Rattle.reading.proofs.Laws.Seen.{seen}
+use Rattle.reading.proofs.Laws.Asked.{read, unit_right, unit-refused}
+use borrow.Author.Rules.{rules}
+use Rattle.std.specs.Prelude.{Err}
+use mathlib.Core.Path.{◌≡◌}
 use Rattle.reading.proofs.heads.unit_of.Goals as goal
 
+pub unit_in-requires : goal.unit_in-requires
+unit_in-requires c =
+    read c.args.setting.year c.args.s.now _ (seen _ _ _ _ c.check.ensures c.in_ok-check.was)
+
 pub returns : goal.returns
-returns c = rw c.year.ensures at c.unit_by_year.ensures
+returns c =
+    unit_right c.args.setting.year c.args.s.now _ (seen _ _ _ _ c.check.ensures c.in_ok-check.was) _
+    c.unit_in.ensures
+
+pub returns-in_err-check : goal.returns-in_err-check
+returns-in_err-check c =
+    let e : c.from_residual.result ≡ Err c.in_err-check.field-0.0 = search rules in
+    rw e (unit-refused c.args.setting.year c.args.s.now _ _ c.check.ensures c.in_err-check.was)

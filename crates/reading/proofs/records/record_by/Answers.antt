@@ -7,5 +7,5 @@ use Rattle.reading.proofs.records.record_by.Goals as goal
 pub returns : goal.returns
 unfolding header_of
 returns c =
-    rw (c.reference_number.ensures, c.items_of.ensures, c.mark_of.ensures, c.first_count.ensures)
+    rw (c.number.ensures, c.items_of.ensures, c.mark_of.ensures, c.first_count.ensures)
     (ap (λ h. record_by c.args.place c.args.count h) c.header_at-h.ensures)

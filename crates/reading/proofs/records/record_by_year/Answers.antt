@@ -1,18 +1,19 @@
--- The sheet is accepted at the year, so the record in it is the one asked for; or its refusal is the answer.
+-- The year of the setting made is the one asked for (`known`), and where none is made its refusal is the answer (`not_read`).
+use mathlib.Core.Path.{◌≡◌}
 use mathlib.Core.Path.{refl}
-use Rattle.reading.proofs.Laws.Seen.{seen}
-use Rattle.reading.proofs.Laws.Asked.{accepted_at, found_right, found_refused}
+use Rattle.layout.specs.Answers.Calls.{asked}
+use Rattle.layout.specs.Answers.Enums.{found_of}
+use Rattle.meanings.proofs.Laws.Settings.{known}
+use Rattle.reading.proofs.Laws.Settings.{not_read}
+use Rattle.std.specs.Prelude.{Err}
+use borrow.Author.Rules.{rules}
 use Rattle.reading.proofs.records.record_by_year.Goals as goal
 
-pub record_in-requires : goal.record_in-requires
-record_in-requires c =
-    accepted_at c.args.year c.args.s.now _ (seen _ _ _ _ c.check_by_year.ensures c.in-Accepted.is) _ refl
+pub returns : goal.returns
+returns c = rw (known c.args.year _ _ c.new.ensures c.in_ok-setting.was) at c.record_at.ensures
 
-pub returns-in-Accepted : goal.returns-in-Accepted
-returns-in-Accepted c =
-    found_right c.args.year c.args.s.now _ (seen _ _ _ _ c.check_by_year.ensures c.in-Accepted.is) _ _ _
-    refl c.record_in.ensures
-
-pub returns-in-Refused : goal.returns-in-Refused
-returns-in-Refused c =
-    found_refused c.args.year c.args.s.now _ _ c.check_by_year.ensures c.in-Refused.is c.args.number
+pub returns-in_err-setting : goal.returns-in_err-setting
+unfolding asked found_of
+returns-in_err-setting c =
+    let e : c.from_residual.result ≡ Err c.in_err-setting.field-0.0 = search rules in
+    rw (e, not_read c.args.year _ _ c.new.ensures c.in_err-setting.was c.args.s.now) refl

@@ -1,5 +1,7 @@
--- This is the call by year at the year of the setting, so its equation is rewritten by what `year` gives.
+-- The setting's year is one of the nine, so that the sheet is read at it (`read_at`).
+use mathlib.Core.Path.{◌∙◌}
+use Rattle.reading.proofs.Laws.Settings.{read_at}
 use Rattle.reading.proofs.sheets.check.Goals as goal
 
 pub returns : goal.returns
-returns c = rw c.year.ensures at c.check_by_year.ensures
+returns c = rw (read_at c.args.setting c.args.s.now) (rw c.year.ensures at c.check.ensures)

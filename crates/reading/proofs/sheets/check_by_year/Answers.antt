@@ -1,13 +1,18 @@
--- The setting that is made of the year is the year itself (`at-known`), or its refusal is the answer (`at-unknown`).
+-- The year of the setting made is the one asked for (`known`), and where none is made its refusal is the answer (`not_read`).
+use mathlib.Core.Path.{◌≡◌}
 use mathlib.Core.Path.{refl}
-use Rattle.reading.proofs.Laws.Settings.{at-known, at-unknown}
+use Rattle.layout.specs.Answers.Enums.{checked_of}
+use Rattle.meanings.proofs.Laws.Settings.{known}
+use Rattle.reading.proofs.Laws.Settings.{not_read}
+use Rattle.std.specs.Prelude.{Err}
+use borrow.Author.Rules.{rules}
 use Rattle.reading.proofs.sheets.check_by_year.Goals as goal
 
-pub returns-in-At : goal.returns-in-At
-returns-in-At c =
-    at-known c.args.year _ _ c.args.s.now _ _ _ refl c.new.ensures.means c.in-At.is c.year.ensures
-    c.check.ensures
+pub returns : goal.returns
+returns c = rw (known c.args.year _ _ c.new.ensures c.in_ok-new.was) at c.check.ensures
 
-pub returns-in-Refused : goal.returns-in-Refused
-returns-in-Refused c =
-    at-unknown c.args.year _ _ c.args.s.now _ refl c.new.ensures.means c.in-Refused.is
+pub returns-in_err-new : goal.returns-in_err-new
+unfolding checked_of
+returns-in_err-new c =
+    let e : c.from_residual.result ≡ Err c.in_err-new.field-0.0 = search rules in
+    rw (e, not_read c.args.year _ _ c.new.ensures c.in_err-new.was c.args.s.now) refl

@@ -6,17 +6,19 @@ use Rattle.reading_check.specs.Items.{shape_of}
 use Rattle.layout.specs.Bytes.{number}
 use Rattle.layout.specs.Reading.Items.{kind_in}
 use Rattle.reading_check.proofs.Laws.Items.{item-short, item_on, item-stop, item_starts}
+use borrow.Author.Rules.{rules}
+use Rattle.std.specs.Prelude.{Err}
 use Rattle.reading_check.proofs.items.item.Goals as goal
 
 pub returns-then-xs-lt-SIZE : goal.returns-then-xs-lt-SIZE
 returns-then-xs-lt-SIZE c =
-    record { means = item-short _ _ _ c.if-xs-lt-SIZE.true; within = tt }
+    rw c.refused.ensures (record { means = item-short _ _ _ c.if-xs-lt-SIZE.true; within = tt })
 
 pub value-requires : goal.value-requires
 value-requires c =
     let e : c.shape_of-k.result ≡ shape_of (kind_in c.args.xs.now)
     (number 1 (drop 3 c.args.xs.now)) = c.shape_of-k.ensures.0 ∙ rw
-    (c.u8_at.ensures, c.u8_at-2.ensures) in (
+    (c.at.ensures, c.at-2.ensures) in (
       omega arith,
       record {
         is = e;
@@ -26,27 +28,29 @@ value-requires c =
         closing = c.shape_of-k.ensures.4;
       },
       item_starts _ _ c.args.xs.now c.if-xs-lt-SIZE.false _ e c.shape_checks.result
-          c.shape_checks.ensures c.in-Fine.is,
+          c.shape_checks.ensures c.in_ok-shape_checks.was,
     )
 
-pub returns-in-Fine : goal.returns-in-Fine
-returns-in-Fine c =
+pub returns : goal.returns
+returns c =
     let e : c.shape_of-k.result ≡ shape_of (kind_in c.args.xs.now)
     (number 1 (drop 3 c.args.xs.now)) = c.shape_of-k.ensures.0 ∙ rw
-    (c.u8_at.ensures, c.u8_at-2.ensures) in
+    (c.at.ensures, c.at-2.ensures) in
     record {
       means = item_on _ _ _ c.if-xs-lt-SIZE.false _ e c.shape_checks.result c.shape_checks.ensures
-          c.in-Fine.is _ (c.value.ensures.means _);
+          c.in_ok-shape_checks.was _ (c.value.ensures.means _);
       within = c.value.ensures.within;
     }
 
-pub returns-in-Refused : goal.returns-in-Refused
-returns-in-Refused c =
+pub returns-in_err-shape_checks : goal.returns-in_err-shape_checks
+returns-in_err-shape_checks c =
     let e : c.shape_of-k.result ≡ shape_of (kind_in c.args.xs.now)
     (number 1 (drop 3 c.args.xs.now)) = c.shape_of-k.ensures.0 ∙ rw
-    (c.u8_at.ensures, c.u8_at-2.ensures) in
-    record {
+    (c.at.ensures, c.at-2.ensures) in
+    let end : c.from_residual.result ≡ Err c.in_err-shape_checks.field-0.0 = search rules in
+    rw end
+    (record {
       means = item-stop _ _ _ c.if-xs-lt-SIZE.false _ e c.shape_checks.result c.shape_checks.ensures _
-          c.in-Refused.is;
+          c.in_err-shape_checks.was;
       within = tt;
-    }
+    })

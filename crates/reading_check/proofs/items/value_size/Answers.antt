@@ -3,13 +3,13 @@ use native.Mathlib.Omega.{arith}
 use Rattle.reading_check.proofs.Laws.Items.{long-there, size-stated, size-known}
 use Rattle.reading_check.proofs.items.value_size.Goals as goal
 
-pub u32_at-requires : goal.u32_at-requires
-u32_at-requires c =
+pub at-requires : goal.at-requires
+at-requires c =
     long-there c.args.xs.now _ c.requires.0 c.requires.1 c.if-k.true
 
 pub returns-then-k : goal.returns-then-k
 returns-then-k c =
-    (size-stated c.args.xs.now _ c.requires.0 _ c.u32_at.ensures c.if-k.true, omega arith)
+    (size-stated c.args.xs.now _ c.requires.0 _ c.at.ensures c.if-k.true, omega arith)
 
 pub returns : goal.returns
 returns c =

@@ -9,4 +9,4 @@ returns-then-text c =
 
 pub returns : goal.returns
 returns c =
-    record { means = λ y. text-none y _ _ _ c.if-text.false; within = omega arith }
+    rw c.none.ensures record { means = λ y. text-none y _ _ _ c.if-text.false; within = omega arith }

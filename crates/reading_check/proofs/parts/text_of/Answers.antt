@@ -7,16 +7,16 @@ use Rattle.reading_check.proofs.parts.text_of.Goals as goal
 
 pub returns-then-xs-lt1 : goal.returns-then-xs-lt1
 returns-then-xs-lt1 c =
-    record { means = λ y. text-short y _ _ _ refl (omega arith); within = tt }
+    rw c.refused.ensures (record { means = λ y. text-short y _ _ _ refl (omega arith); within = tt })
 
 pub returns-then-xs-n : goal.returns-then-xs-n
 returns-then-xs-n c =
-    record { means = λ y. text-short y _ _ _ c.u8_at-n.ensures (omega arith); within = tt }
+    rw c.refused-then-xs-n.ensures (record { means = λ y. text-short y _ _ _ c.at-n.ensures (omega arith); within = tt })
 
-pub returns-then-u8_at-eq0 : goal.returns-then-u8_at-eq0
-returns-then-u8_at-eq0 c =
-    record { means = λ y. text-fine y _ _ _ c.u8_at-n.ensures (omega arith) (search rules); within = omega arith }
+pub returns-then-at-ne0 : goal.returns-then-at-ne0
+returns-then-at-ne0 c =
+    rw c.refused-then-at-ne0.ensures (record { means = λ y. text_open y _ _ _ c.at-n.ensures (omega arith) (search rules) _ (omega arith); within = tt })
 
 pub returns : goal.returns
 returns c =
-    record { means = λ y. text_open y _ _ _ c.u8_at-n.ensures (omega arith) (search rules) _ (omega arith); within = tt }
+    record { means = λ y. text-fine y _ _ _ c.at-n.ensures (omega arith) (search rules); within = omega arith }

@@ -1,31 +1,36 @@
 use native.Mathlib.Omega.{arith}
 use Rattle.reading_check.proofs.Laws.Loop.{same_start, same_done, same_stop, same_turn, sum_ok, within-turn}
+use borrow.Author.Rules.{rules}
+use Rattle.std.specs.Prelude.{Err}
+use mathlib.Core.Path.{◌≡◌}
 use Rattle.reading_check.proofs.records.records.Goals as goal
 
-pub loop-left-init : goal.loop-left-init
-loop-left-init c = (omega arith, same_start _ _ _ _ _ _)
+pub loop-init : goal.loop-init
+loop-init c = rw c.none-acc.ensures (omega arith, same_start _ _ _ _ _ _ _ (omega arith))
 
-pub sum-acc-requires : goal.sum-acc-requires
-sum-acc-requires c =
-    sum_ok c.args.xs.now _ c.loop-left.invariant.0 c.one_record.result c.one_record.ensures.within
-    _ c.in-Fine.is (omega arith)
+pub and-acc-requires : goal.and-acc-requires
+and-acc-requires c =
+    sum_ok c.args.xs.now _ c.loop.invariant.0 c.one_record.result c.one_record.ensures.within
+    _ c.in_ok-z.was (omega arith)
 
-pub returns-in-Refused : goal.returns-in-Refused
-returns-in-Refused c =
-    record {
-      means = same_stop _ _ _ _ _ _ _ _ c.loop-left.invariant.1 (omega arith) c.one_record.result
-          c.one_record.ensures.means _ c.in-Refused.is;
+pub returns-in_err-z : goal.returns-in_err-z
+returns-in_err-z c =
+    let e : c.from_residual.result ≡ Err c.in_err-z.field-0.0 = search rules in
+    rw e
+    (record {
+      means = same_stop _ _ _ _ _ _ _ _ c.loop.invariant.1 (omega arith) c.one_record.result
+          c.one_record.ensures.means _ c.in_err-z.was;
       within = tt;
-    }
+    })
 
-pub loop-left-preserved : goal.loop-left-preserved
-loop-left-preserved c = (
-  within-turn c.args.xs.now _ c.loop-left.invariant.0 c.one_record.result c.one_record.ensures.within _
-      c.in-Fine.is _ c.sum-acc.ensures,
-  same_turn _ _ _ _ _ _ _ _ c.loop-left.invariant.1 (omega arith) c.one_record.result c.one_record.ensures.means _
-      c.in-Fine.is _ c.sum-acc.ensures,
+pub loop-preserved : goal.loop-preserved
+loop-preserved c = (
+  within-turn c.args.xs.now _ c.loop.invariant.0 c.one_record.result c.one_record.ensures.within _
+      c.in_ok-z.was _ c.and-acc.ensures,
+  same_turn _ _ _ _ _ _ _ _ c.loop.invariant.1 (omega arith) c.one_record.result c.one_record.ensures.means _
+      c.in_ok-z.was _ c.and-acc.ensures _ (omega arith),
 )
 
 pub returns : goal.returns
 returns c =
-    record { means = same_done _ _ _ _ _ _ _ _ c.loop-left.invariant.1 (omega arith); within = c.loop-left.invariant.0 }
+    record { means = same_done _ _ _ _ _ _ _ _ c.loop.invariant.1 (omega arith); within = c.loop.invariant.0 }

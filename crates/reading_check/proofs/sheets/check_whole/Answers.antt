@@ -6,6 +6,8 @@ use lib.ListN.{drop}
 use Rattle.reading_check.proofs.Laws.Sheets.{head_on, head-stop, walked_here}
 use Rattle.fields.proofs.Laws.Lists.{rest_is}
 use Rattle.layout.specs.Bytes.{total, low32}
+use borrow.Author.Rules.{rules}
+use Rattle.std.specs.Prelude.{Err}
 use Rattle.reading_check.proofs.sheets.check_whole.Goals as goal
 
 pub check-requires : goal.check-requires
@@ -17,11 +19,13 @@ pub check_records-requires : goal.check_records-requires
 check_records-requires c =
     let s = c.args.s.now in
     let year = c.args.year in (
-      head_on s c.requires.1 c.requires.0 year c.check.result c.check.ensures c.in-Fine.is,
-      walked_here year s _ c.u32_at.ensures _ c.walk-walked.ensures.means,
+      head_on s c.requires.1 c.requires.0 year c.check.result c.check.ensures c.in_ok-check.was,
+      walked_here year s _ c.at.ensures _ c.walk-walked.ensures.means,
     )
 
-pub returns-in-Refused : goal.returns-in-Refused
-returns-in-Refused c =
-    head-stop c.args.s.now c.requires.1 c.requires.0 c.args.year c.check.result c.check.ensures _
-    c.in-Refused.is
+pub returns-in_err-check : goal.returns-in_err-check
+returns-in_err-check c =
+    let e : c.from_residual.result ≡ Err c.in_err-check.field-0.0 = search rules in
+    rw e
+    (head-stop c.args.s.now c.requires.1 c.requires.0 c.args.year c.check.result c.check.ensures _
+    c.in_err-check.was)

@@ -36,4 +36,4 @@ shape_of-out c = simp length-set
 
 pub returns : goal.returns
 unfolding header_of row_of
-returns c = simp (unary_clauses, c.reference_number.ensures, c.mark_of.ensures) refl
+returns c = simp (unary_clauses, c.number.ensures, c.mark_of.ensures) refl

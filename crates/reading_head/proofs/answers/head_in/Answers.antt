@@ -9,8 +9,8 @@ text_in-date-requires c = let a = read-long _ c.requires in omega (arith, a)
 pub text_in-designation-requires : goal.text_in-designation-requires
 text_in-designation-requires c = let a = read-long _ c.requires in omega (arith, a)
 
-pub u32_at-scale-requires : goal.u32_at-scale-requires
-u32_at-scale-requires c = let a = read-long _ c.requires in omega (arith, a)
+pub at-scale-requires : goal.at-scale-requires
+at-scale-requires c = let a = read-long _ c.requires in omega (arith, a)
 
 pub text_in-title-requires : goal.text_in-title-requires
 text_in-title-requires c = let a = read-long _ c.requires in omega (arith, a)
@@ -22,4 +22,4 @@ pub returns : goal.returns
 returns c =
     let s = c.args.s.now in
     λ t e. head-answered s t e _ _ _ _ _ c.text_in-date.ensures c.text_in-designation.ensures c.text_in-title.ensures
-    c.text_in-designation2.ensures c.u32_at-scale.ensures
+    c.text_in-designation2.ensures c.at-scale.ensures

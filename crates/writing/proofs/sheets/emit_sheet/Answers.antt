@@ -1,80 +1,35 @@
 -- `Ready` gives each of the three calls what it asks; head, records and the sum over them are the encoding of the sheet (`emitted`).
-use mathlib.Core.List.{List}
 use mathlib.Core.Path.{refl}
 use lib.ListN.{length}
-use Prim.Native.Nat.{ℕ}
 use native.Mathlib.Omega.{arith}
-use Rattle.layout.specs.Answers.Lent.{head_of}
-use Rattle.layout.specs.Sheet.{Head, Table}
-use Rattle.layout.specs.Writing.Tables.{table}
 use Rattle.writing.proofs.Laws.Emitted.{count_fits, head_asks, rows_ask, sum_asks, emitted}
+use Rattle.writing_check.specs.Places.{lists}
+use Rattle.writing_head.specs.Heads.{head_in}
 use Rattle.writing.proofs.sheets.emit_sheet.Goals as goal
 
 pub overflow_cast-count : goal.overflow_cast-count
 overflow_cast-count c =
-    let head : Head =
-    head_of c.args.date.now c.args.designation.now c.args.scale c.args.title.now c.args.rest.now c.args.designation2.now
-    c.args.carried.now in
-    let rows : Table =
-    table c.args.table.now c.args.elements.now c.args.bytes.now in
-    let out : List ℕ =
-    c.args.out.now in
-    omega (arith, count_fits head rows c.args.t (length out) c.requires)
+    omega (arith, count_fits (head_in c.args.scale c.args.head) (lists c.args.t.now) c.args.totals (length c.args.out.now) c.requires)
 
 pub emit-requires : goal.emit-requires
 emit-requires c =
-    let head : Head =
-    head_of c.args.date.now c.args.designation.now c.args.scale c.args.title.now c.args.rest.now c.args.designation2.now
-    c.args.carried.now in
-    let rows : Table =
-    table c.args.table.now c.args.elements.now c.args.bytes.now in
-    let out : List ℕ =
-    c.args.out.now in
-    head_asks head rows c.args.t (length out) c.requires
+    let a = head_asks (head_in c.args.scale c.args.head) (lists c.args.t.now) c.args.totals (length c.args.out.now) c.requires in
+    (record { date = a.0; designation = a.1; title = a.2; rest = a.3; designation2 = a.4; carried = a.5 }, a.6)
 
 pub emit-requires-2 : goal.emit-requires-2
 emit-requires-2 c =
-    let head : Head =
-    head_of c.args.date.now c.args.designation.now c.args.scale c.args.title.now c.args.rest.now c.args.designation2.now
-    c.args.carried.now in
-    let rows : Table =
-    table c.args.table.now c.args.elements.now c.args.bytes.now in
-    let out : List ℕ =
-    c.args.out.now in
-    rows_ask head rows c.args.t (length out) c.requires _ (omega arith)
+    rows_ask (head_in c.args.scale c.args.head) (lists c.args.t.now) c.args.totals (length c.args.out.now) c.requires _ (omega arith)
 
-pub overflow_add-t : goal.overflow_add-t
-overflow_add-t c =
-    let head : Head =
-    head_of c.args.date.now c.args.designation.now c.args.scale c.args.title.now c.args.rest.now c.args.designation2.now
-    c.args.carried.now in
-    let rows : Table =
-    table c.args.table.now c.args.elements.now c.args.bytes.now in
-    let out : List ℕ =
-    c.args.out.now in
-    let a = sum_asks head rows c.args.t (length out) c.requires _ refl in
+pub overflow_add-totals : goal.overflow_add-totals
+overflow_add-totals c =
+    let a = sum_asks (head_in c.args.scale c.args.head) (lists c.args.t.now) c.args.totals (length c.args.out.now) c.requires _ refl in
     omega (arith, a)
 
 pub emit_sum-requires : goal.emit_sum-requires
 emit_sum-requires c =
-    let head : Head =
-    head_of c.args.date.now c.args.designation.now c.args.scale c.args.title.now c.args.rest.now c.args.designation2.now
-    c.args.carried.now in
-    let rows : Table =
-    table c.args.table.now c.args.elements.now c.args.bytes.now in
-    let out : List ℕ =
-    c.args.out.now in
-    sum_asks head rows c.args.t (length out) c.requires _ (omega arith)
+    sum_asks (head_in c.args.scale c.args.head) (lists c.args.t.now) c.args.totals (length c.args.out.now) c.requires _ (omega arith)
 
 pub returns : goal.returns
 returns c =
-    let head : Head =
-    head_of c.args.date.now c.args.designation.now c.args.scale c.args.title.now c.args.rest.now c.args.designation2.now
-    c.args.carried.now in
-    let rows : Table =
-    table c.args.table.now c.args.elements.now c.args.bytes.now in
-    let out : List ℕ =
-    c.args.out.now in
-    emitted head rows c.args.t (length out) c.requires out _ _ _ refl
-    c.emit.ensures c.emit-2.ensures
-    c.emit_sum.ensures
+    emitted (head_in c.args.scale c.args.head) (lists c.args.t.now) c.args.totals (length c.args.out.now) c.requires c.args.out.now _ _ _ refl
+    c.emit.ensures c.emit-2.ensures c.emit_sum.ensures

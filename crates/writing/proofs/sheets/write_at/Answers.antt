@@ -1,154 +1,51 @@
 -- Three ways out: the measure refuses, the slice is too short (`short_right`), or the sheet is `Ready` and its bytes are emitted (`written_right`).
-use mathlib.Core.List.{List}
 use mathlib.Core.Path.{◌≡◌}
 use native.Mathlib.Omega.{arith}
-use Prim.Native.Nat.{ℕ, ◌<◌, ◌^◌}
-use Rattle.layout.specs.Answers.Lent.{head_of}
-use Rattle.layout.specs.Bytes.{Bytes}
-use Rattle.layout.specs.Sheet.{Head, Table}
-use Rattle.layout.specs.Walk.{answer, up_to}
-use Rattle.layout.specs.Writing.Sheets.{table_walk}
-use Rattle.layout.specs.Writing.Tables.{table}
-use Rattle.laws.proofs.Base.Numbers.{all-bytes}
-use Rattle.laws.proofs.Writing.Sheets.{Typed}
+use Prim.Native.Nat.{◌<◌, ◌^◌}
+use Rattle.std.specs.Prelude.{Err}
+use Rattle.std.proofs.Common.{rules}
 use Rattle.writing.proofs.Laws.Answered.{refused_right, within, ready, short_right, written_right}
-use Rattle.writing.proofs.Laws.Measured.{typed_head}
-use Rattle.writing.specs.Ready.{measured_of}
+use Rattle.writing.proofs.Laws.Measured.{typed_texts, typed_pool}
+use Rattle.writing_check.specs.Places.{lists}
+use Rattle.writing_head.specs.Heads.{head_in}
 use Rattle.writing.proofs.sheets.write_at.Goals as goal
+
+pub returns-in_err-totals : goal.returns-in_err-totals
+returns-in_err-totals c =
+    let e : c.from_residual.result ≡ Err c.in_err-totals.field-0.0 = search rules in
+    let small : c.args.scale < 256 ^ 4 = omega (arith, c.well_formed) in
+    let both = refused_right c.args.year (head_in c.args.scale c.args.head) (lists c.args.t.now) c.args.out.now c.measure.result
+    (c.measure.ensures c.args.scale small) _ c.in_err-totals.was in
+    rw e record { answers = both.0; sheet = both.1 }
 
 pub overflow_add-n : goal.overflow_add-n
 overflow_add-n c =
-    let head : Head =
-    head_of c.args.date.now c.args.designation.now c.args.scale c.args.title.now c.args.rest.now
-    c.args.designation2.now c.args.carried.now in
-    let rows : Table =
-    table c.args.table.now c.args.elements.now c.args.bytes.now in
-    let out : List ℕ =
-    c.args.out.now in
-    let year : ℕ =
-    c.args.year in
-    let scaled : c.args.scale < 256 ^ 4 =
-    omega (arith, c.well_formed) in
-    let typed : Typed head =
-    let a = c.args in
-    typed_head a.date.now a.designation.now a.scale a.title.now a.rest.now a.designation2.now a.carried.now
-    (all-bytes a.date.now (λ i. omega (arith, c.type_inv.date i)))
-    (all-bytes a.designation.now (λ i. omega (arith, c.type_inv.designation i)))
-    scaled
-    (all-bytes a.title.now (λ i. omega (arith, c.type_inv.title i)))
-    (c.requires.0, all-bytes a.rest.now (λ i. omega (arith, c.type_inv.rest i)))
-    (all-bytes a.designation2.now (λ i. omega (arith, c.type_inv.designation2 i)))
-    (c.requires.1, all-bytes a.carried.now (λ i. omega (arith, c.type_inv.carried i))) in
-    let pool : Bytes c.args.bytes.now =
-    all-bytes c.args.bytes.now (λ i. omega (arith, c.type_inv.bytes i)) in
-    let means : c.measure.result ≡ measured_of (answer (up_to year) (table_walk head rows)) =
-    c.measure.ensures c.args.scale scaled in
-    omega (arith, within year head rows out c.measure.result means typed pool _ c.in-Fine.is)
+    let small : c.args.scale < 256 ^ 4 = omega (arith, c.well_formed) in
+    omega (
+      arith,
+      within c.args.year (head_in c.args.scale c.args.head) (lists c.args.t.now) c.args.out.now c.measure.result
+          (c.measure.ensures c.args.scale small) (typed_texts c.args.head c.args.scale small c.requires) (typed_pool c.args.t.now) _ c.in_ok-totals.was,
+    )
 
 pub returns-then-out-n : goal.returns-then-out-n
 returns-then-out-n c =
-    let head : Head =
-    head_of c.args.date.now c.args.designation.now c.args.scale c.args.title.now c.args.rest.now
-    c.args.designation2.now c.args.carried.now in
-    let rows : Table =
-    table c.args.table.now c.args.elements.now c.args.bytes.now in
-    let out : List ℕ =
-    c.args.out.now in
-    let year : ℕ =
-    c.args.year in
-    let scaled : c.args.scale < 256 ^ 4 =
-    omega (arith, c.well_formed) in
-    let typed : Typed head =
-    let a = c.args in
-    typed_head a.date.now a.designation.now a.scale a.title.now a.rest.now a.designation2.now a.carried.now
-    (all-bytes a.date.now (λ i. omega (arith, c.type_inv.date i)))
-    (all-bytes a.designation.now (λ i. omega (arith, c.type_inv.designation i)))
-    scaled
-    (all-bytes a.title.now (λ i. omega (arith, c.type_inv.title i)))
-    (c.requires.0, all-bytes a.rest.now (λ i. omega (arith, c.type_inv.rest i)))
-    (all-bytes a.designation2.now (λ i. omega (arith, c.type_inv.designation2 i)))
-    (c.requires.1, all-bytes a.carried.now (λ i. omega (arith, c.type_inv.carried i))) in
-    let pool : Bytes c.args.bytes.now =
-    all-bytes c.args.bytes.now (λ i. omega (arith, c.type_inv.bytes i)) in
-    let means : c.measure.result ≡ measured_of (answer (up_to year) (table_walk head rows)) =
-    c.measure.ensures c.args.scale scaled in
-    let both = short_right year head rows out c.measure.result means typed pool _ c.in-Fine.is (omega arith) in
-    record { answers = both.0; sheet = both.1 }
+    let small : c.args.scale < 256 ^ 4 = omega (arith, c.well_formed) in
+    let both = short_right c.args.year (head_in c.args.scale c.args.head) (lists c.args.t.now) c.args.out.now c.measure.result
+    (c.measure.ensures c.args.scale small) (typed_texts c.args.head c.args.scale small c.requires) (typed_pool c.args.t.now) _ c.in_ok-totals.was
+    (omega arith) in
+    rw c.refused.ensures record { answers = both.0; sheet = both.1 }
 
 pub emit_sheet-requires : goal.emit_sheet-requires
 emit_sheet-requires c =
-    let head : Head =
-    head_of c.args.date.now c.args.designation.now c.args.scale c.args.title.now c.args.rest.now
-    c.args.designation2.now c.args.carried.now in
-    let rows : Table =
-    table c.args.table.now c.args.elements.now c.args.bytes.now in
-    let out : List ℕ =
-    c.args.out.now in
-    let year : ℕ =
-    c.args.year in
-    let scaled : c.args.scale < 256 ^ 4 =
-    omega (arith, c.well_formed) in
-    let typed : Typed head =
-    let a = c.args in
-    typed_head a.date.now a.designation.now a.scale a.title.now a.rest.now a.designation2.now a.carried.now
-    (all-bytes a.date.now (λ i. omega (arith, c.type_inv.date i)))
-    (all-bytes a.designation.now (λ i. omega (arith, c.type_inv.designation i)))
-    scaled
-    (all-bytes a.title.now (λ i. omega (arith, c.type_inv.title i)))
-    (c.requires.0, all-bytes a.rest.now (λ i. omega (arith, c.type_inv.rest i)))
-    (all-bytes a.designation2.now (λ i. omega (arith, c.type_inv.designation2 i)))
-    (c.requires.1, all-bytes a.carried.now (λ i. omega (arith, c.type_inv.carried i))) in
-    let pool : Bytes c.args.bytes.now =
-    all-bytes c.args.bytes.now (λ i. omega (arith, c.type_inv.bytes i)) in
-    let means : c.measure.result ≡ measured_of (answer (up_to year) (table_walk head rows)) =
-    c.measure.ensures c.args.scale scaled in
-    ready year head rows out c.measure.result means typed pool _ c.in-Fine.is (omega arith)
+    let small : c.args.scale < 256 ^ 4 = omega (arith, c.well_formed) in
+    ready c.args.year (head_in c.args.scale c.args.head) (lists c.args.t.now) c.args.out.now c.measure.result
+    (c.measure.ensures c.args.scale small) (typed_texts c.args.head c.args.scale small c.requires) (typed_pool c.args.t.now) _ c.in_ok-totals.was
+    (omega arith)
 
-pub returns-else-out-n : goal.returns-else-out-n
-returns-else-out-n c =
-    let head : Head =
-    head_of c.args.date.now c.args.designation.now c.args.scale c.args.title.now c.args.rest.now
-    c.args.designation2.now c.args.carried.now in
-    let rows : Table =
-    table c.args.table.now c.args.elements.now c.args.bytes.now in
-    let out : List ℕ =
-    c.args.out.now in
-    let year : ℕ =
-    c.args.year in
-    let scaled : c.args.scale < 256 ^ 4 =
-    omega (arith, c.well_formed) in
-    let typed : Typed head =
-    let a = c.args in
-    typed_head a.date.now a.designation.now a.scale a.title.now a.rest.now a.designation2.now a.carried.now
-    (all-bytes a.date.now (λ i. omega (arith, c.type_inv.date i)))
-    (all-bytes a.designation.now (λ i. omega (arith, c.type_inv.designation i)))
-    scaled
-    (all-bytes a.title.now (λ i. omega (arith, c.type_inv.title i)))
-    (c.requires.0, all-bytes a.rest.now (λ i. omega (arith, c.type_inv.rest i)))
-    (all-bytes a.designation2.now (λ i. omega (arith, c.type_inv.designation2 i)))
-    (c.requires.1, all-bytes a.carried.now (λ i. omega (arith, c.type_inv.carried i))) in
-    let pool : Bytes c.args.bytes.now =
-    all-bytes c.args.bytes.now (λ i. omega (arith, c.type_inv.bytes i)) in
-    let means : c.measure.result ≡ measured_of (answer (up_to year) (table_walk head rows)) =
-    c.measure.ensures c.args.scale scaled in
-    let both = written_right year head rows out c.measure.result means typed pool _ c.in-Fine.is _ (omega arith)
-    c.emit_sheet.ensures in
-    record { answers = both.0; sheet = both.1 }
-
-pub returns-in-Refused : goal.returns-in-Refused
-returns-in-Refused c =
-    let head : Head =
-    head_of c.args.date.now c.args.designation.now c.args.scale c.args.title.now c.args.rest.now
-    c.args.designation2.now c.args.carried.now in
-    let rows : Table =
-    table c.args.table.now c.args.elements.now c.args.bytes.now in
-    let out : List ℕ =
-    c.args.out.now in
-    let year : ℕ =
-    c.args.year in
-    let scaled : c.args.scale < 256 ^ 4 =
-    omega (arith, c.well_formed) in
-    let means : c.measure.result ≡ measured_of (answer (up_to year) (table_walk head rows)) =
-    c.measure.ensures c.args.scale scaled in
-    let both = refused_right year head rows out c.measure.result means _ c.in-Refused.is in
+pub returns : goal.returns
+returns c =
+    let small : c.args.scale < 256 ^ 4 = omega (arith, c.well_formed) in
+    let both = written_right c.args.year (head_in c.args.scale c.args.head) (lists c.args.t.now) c.args.out.now c.measure.result
+    (c.measure.ensures c.args.scale small) (typed_texts c.args.head c.args.scale small c.requires) (typed_pool c.args.t.now) _ c.in_ok-totals.was
+    _ (omega arith) c.emit_sheet.ensures in
     record { answers = both.0; sheet = both.1 }

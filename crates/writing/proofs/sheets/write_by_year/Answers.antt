@@ -1,23 +1,23 @@
--- The setting that is made of the year is the year itself (`at-known`), or its refusal is the answer (`at-unknown`).
-use mathlib.Core.Path.{refl}
+-- The year of the setting made is the one asked for (`known`), and where none is made its refusal is the answer (`not_written`).
+use mathlib.Core.Path.{◌≡◌}
 use Rattle.layout.specs.Answers.Lent.{head_of}
 use Rattle.layout.specs.Writing.Tables.{table}
-use Rattle.writing.proofs.Laws.Answered.{at-known, at-unknown}
+use Rattle.meanings.proofs.Laws.Settings.{known}
+use Rattle.std.specs.Prelude.{Err}
+use Rattle.std.proofs.Common.{rules}
+use Rattle.writing.proofs.Laws.Answered.{not_written}
 use Rattle.writing.proofs.sheets.write_by_year.Goals as goal
 
-pub returns-in-At : goal.returns-in-At
-returns-in-At c =
-    let h = head_of c.args.date.now c.args.designation.now c.args.scale c.args.title.now c.args.rest.now
-    c.args.designation2.now c.args.carried.now in
-    let t = table c.args.table.now c.args.elements.now c.args.bytes.now in
-    let both = at-known c.args.year _ h t c.args.out.now _ refl c.new.ensures.means _ _ _ _ c.in-At.is
-    c.year.ensures (c.write_at.ensures.answers, c.write_at.ensures.sheet) in
-    record { answers = both.0; sheet = both.1 }
+pub returns : goal.returns
+returns c =
+    let at = rw (known c.args.year _ _ c.new.ensures c.in_ok-setting.was) at c.write.ensures in
+    record { answers = at.answers; sheet = at.sheet }
 
-pub returns-in-Refused : goal.returns-in-Refused
-returns-in-Refused c =
-    let h = head_of c.args.date.now c.args.designation.now c.args.scale c.args.title.now c.args.rest.now
-    c.args.designation2.now c.args.carried.now in
-    let t = table c.args.table.now c.args.elements.now c.args.bytes.now in
-    let both = at-unknown c.args.year _ h t c.args.out.now _ refl c.new.ensures.means _ c.in-Refused.is in
-    record { answers = both.0; sheet = both.1 }
+pub returns-in_err-setting : goal.returns-in_err-setting
+returns-in_err-setting c =
+    let a = c.args in
+    let h = head_of a.date.now a.designation.now a.scale a.title.now a.rest.now a.designation2.now a.carried.now in
+    let t = table a.table.now a.elements.now a.bytes.now in
+    let e : c.from_residual.result ≡ Err c.in_err-setting.field-0.0 = search rules in
+    let both = not_written a.year c.new.result _ c.new.ensures c.in_err-setting.was h t a.out.now in
+    rw e record { answers = both.0; sheet = both.1 }

@@ -1,34 +1,40 @@
--- An item that was let through moves the three places and the length; a refusal is that of its rules.
+-- An item is the rules on it, and then the places after it (`item_moves`).
+use mathlib.Core.Path.{refl}
 use native.Mathlib.Omega.{arith}
-use mathlib.Core.Path.{ap, ◌∙◌}
-use mathlib.Core.List.{[]}
-use lib.ListN.{length-drop}
-use Prim.Native.Nat.{◌+◌}
-use Rattle.writing_check.specs.Items.{length_of}
-use Rattle.writing_check.specs.Places.{capped}
-use Rattle.writing_check.proofs.Laws.Items.{item-size, item-stop, item-fine}
+use Rattle.std.proofs.Common.{rules}
+use Rattle.writing_check.specs.Places.{lists, with_elements}
+use Rattle.fields.proofs.Laws.Chain.{step_holds}
+use Rattle.writing_check.proofs.Laws.Items.{item_checks, item_fits, item_moves}
 use Rattle.writing_check.proofs.items.take_item.Goals as goal
 
-pub overflow_add-result-in-Fine : goal.overflow_add-result-in-Fine
-overflow_add-result-in-Fine c =
-    let z = item-size _ c.args.table.now [] c.args.bytes.now c.args.p _ c.read_item-a.ensures
-    c.item_rules.result c.item_rules.ensures c.in-Fine.is in
-    omega (arith, z, length-drop c.args.p.byte c.args.bytes.now)
+pub overflow_add-result-2 : goal.overflow_add-result-2
+overflow_add-result-2 c =
+    let t = lists c.args.t.now in
+    let a = c.read-a.result in
+    omega (
+      arith,
+      item_fits c.args.year t c.args.p a c.read-a.ensures (step_holds c.args.year c.args.p.number
+          (item_checks c.args.year t c.args.p a c.read-a.ensures) c.rules.result c.rules.ensures tt c.in_ok-rules.was),
+    )
 
-pub item_length-requires : goal.item_length-requires
-item_length-requires c =
-    let z = item-size _ c.args.table.now [] c.args.bytes.now c.args.p _ c.read_item-a.ensures
-    c.item_rules.result c.item_rules.ensures c.in-Fine.is in
-    omega (arith, z)
+pub length-requires : goal.length-requires
+length-requires c =
+    let t = lists c.args.t.now in
+    let a = c.read-a.result in
+    (item_fits c.args.year t c.args.p a c.read-a.ensures (step_holds c.args.year c.args.p.number
+    (item_checks c.args.year t c.args.p a c.read-a.ensures) c.rules.result c.rules.ensures tt c.in_ok-rules.was)).0
 
-pub returns-in-Fine : goal.returns-in-Fine
-returns-in-Fine c =
-    λ es. item-fine _ c.args.table.now es c.args.bytes.now c.args.p _ c.read_item-a.ensures
-    c.item_rules.result c.item_rules.ensures c.in-Fine.is _
-    (c.longer.ensures ∙ ap (λ n. capped (c.args.p.length + n))
-    (c.item_length.ensures.0 ∙ ap (length_of c.read_item-a.result) c.kind_of-k.ensures))
+pub returns : goal.returns
+returns c = λ es.
+    rw (
+      item_moves c.args.year (with_elements es c.args.t.now) c.args.p c.read-a.result c.read-a.ensures,
+      ← c.rules.ensures,
+      c.in_ok-rules.was,
+      c.longer.ensures,
+      c.length.ensures.0,
+      c.from-k.ensures,
+    ) refl
 
-pub returns-in-Refused : goal.returns-in-Refused
-returns-in-Refused c =
-    λ es. item-stop _ c.args.table.now es c.args.bytes.now c.args.p _ c.read_item-a.ensures
-    c.item_rules.result c.item_rules.ensures _ c.in-Refused.is
+pub returns-in_err-rules : goal.returns-in_err-rules
+returns-in_err-rules c = λ es.
+    rw (item_moves c.args.year (with_elements es c.args.t.now) c.args.p c.read-a.result c.read-a.ensures, ← c.rules.ensures, c.in_err-rules.was) (search rules)

@@ -1,38 +1,26 @@
-use mathlib.Core.List.{[]}
-use native.Mathlib.Omega.{arith}
-use Rattle.laws.proofs.Writing.Items.{item-numbers}
-use Rattle.writing_check.proofs.Laws.Moves.{same_start, same_done, same_stop, same_turn}
-use Rattle.writing_check.proofs.Laws.Items.{item_went, item_stopped, item-next}
+-- Items follow each other in four numbers each, and each call is the taker of an item.
+use Rattle.std.proofs.Common.{rules}
+use Rattle.layout.specs.Layout.Fine.{FineItem}
+use Rattle.layout.specs.Layout.Sizes.{item_bytes}
+use Rattle.layout.specs.Layout.Uses.{item_years}
+use Rattle.layout.specs.Walk.{up_to}
+use Rattle.layout.specs.Writing.Items.{take_item}
+use Rattle.layout.specs.Writing.Tables.{flatten_item}
+use Rattle.laws.proofs.Writing.Items.{item_takes, item-numbers}
+use Rattle.writing_check.proofs.Laws.Moves.{at_any}
+use Rattle.writing_check.proofs.Laws.Pieces.{may_take, took_is}
+use Rattle.writing_check.specs.Places.{lists, with_elements, AtBy, Any}
 use Rattle.writing_check.proofs.items.take_items.Goals as goal
 
-pub loop-left-init : goal.loop-left-init
-loop-left-init c =
-    (c.requires.0, c.requires.1, λ es. same_start _ _ _ _ _ _ _ _)
-
-pub take_item-requires : goal.take_item-requires
-take_item-requires c = let h = c.loop-left.invariant.0 in omega (arith, h)
-
-pub returns-in-Refused : goal.returns-in-Refused
-returns-in-Refused c =
-    λ es. same_stop _ _ _ _ _ _ _ _ _ _ (c.loop-left.invariant.2 es) (omega arith) _
-    (item_stopped _ c.args.table.now es c.args.bytes.now _ c.loop-left.invariant.0 (omega arith) c.take_item.result
-    c.take_item.ensures _ c.in-Refused.is)
-
-pub loop-left-preserved : goal.loop-left-preserved
-loop-left-preserved c =
-    let h = c.loop-left.invariant.0 in
-    let w = item_went _ c.args.table.now [] c.args.bytes.now _ h (omega arith) c.take_item.result
-    c.take_item.ensures _ c.in-Fine.is in
-    let n = item-next _ c.args.table.now [] c.args.bytes.now _ h (omega arith) c.take_item.result
-    c.take_item.ensures _ c.in-Fine.is in (
-      w.at,
-      omega (arith, n),
-      λ es. same_turn _ _ _ _ _ _ _ _ _ _ _ _ item-numbers (c.loop-left.invariant.2 es) (omega arith)
-          (item_went _ c.args.table.now es c.args.bytes.now _ h (omega arith) c.take_item.result
-          c.take_item.ensures _ c.in-Fine.is),
-    )
+pub take_all-requires : goal.take_all-requires
+take_all-requires c =
+    let y = up_to c.args.year in
+    may_take y 4 take_item flatten_item FineItem item_years (item_takes y) item_bytes item-numbers Any (lists c.args.t.now) (λ n a r e h. tt) _ _
+    (λ q m f. search rules) c.args.n c.args.p c.requires.0 c.requires.1 (λ q h room. search rules)
 
 pub returns : goal.returns
-returns c =
-    let h = c.loop-left.invariant.0 in
-    λ es. same_done _ _ _ _ _ _ _ _ _ _ (c.loop-left.invariant.2 es) (omega arith) h.length
+returns c = λ es.
+    let y = up_to c.args.year in
+    let at : AtBy Any (with_elements es c.args.t.now) c.args.p = at_any c.requires.0 in
+    took_is y 4 take_item flatten_item FineItem item_years (item_takes y) item_bytes item-numbers Any (with_elements es c.args.t.now) (λ n a r e h. tt)
+    (λ q. Unit {0}) _ (λ q m f. search rules) c.args.n c.args.p c.take_all.result at c.requires.1 c.take_all.ensures

@@ -1,17 +1,26 @@
--- The elements refuse (`then-stop`), or the text's rules follow (`then_on`), with what is left of the pool of bytes as their room.
-use mathlib.Core.Path.{ap, sym}
-use lib.ListN.{length, drop, length-drop}
-use Rattle.fields.proofs.Laws.Chain.{as_checks, then_on, then-stop}
-use Rattle.writing_check.specs.Parts.{text_by}
+-- The elements' checks come first, and then the text's.
+use Prim.Native.Nat.{◌-◌}
+use lib.ListN.{length, drop}
+use Rattle.std.proofs.Common.{rules}
+use Rattle.writing_check.proofs.Laws.Moves.{then_checked, then_refused}
+use Rattle.writing_check.specs.Parts.{elements_by, text_by}
 use Rattle.writing_check.proofs.parts.pool_rules.Goals as goal
 
-pub returns-in-Fine : goal.returns-in-Fine
-returns-in-Fine c =
-    λ y. then_on y _ _ c.element_rules.result (c.element_rules.ensures y) c.in-Fine.is _ _
-    (as_checks (ap (λ k. text_by c.args.s c.args.size k) (sym (length-drop c.args.p.byte c.args.bytes.now)))
-    (c.text_rules.ensures y))
+pub returns : goal.returns
+returns c = λ y.
+    let t = c.args.t.now in
+    let p = c.args.p in
+    then_checked y p.number
+    (elements_by c.args.s c.args.points (length t.elements.now - p.element) (drop p.element t.elements.now))
+    (text_by c.args.s c.args.size (length t.bytes.now - p.byte))
+    c.element_rules.result c.text_rules.result (c.element_rules.ensures y) c.in_ok-element_rules.was (c.text_rules.ensures y)
 
-pub returns-in-Refused : goal.returns-in-Refused
-returns-in-Refused c =
-    λ y. then-stop y _ _ c.element_rules.result (c.element_rules.ensures y) _ c.in-Refused.is
-    (text_by c.args.s c.args.size (length (drop c.args.p.byte c.args.bytes.now)))
+pub returns-in_err-element_rules : goal.returns-in_err-element_rules
+returns-in_err-element_rules c = λ y.
+    let t = c.args.t.now in
+    let p = c.args.p in
+    rw (← then_refused y p.number
+    (elements_by c.args.s c.args.points (length t.elements.now - p.element) (drop p.element t.elements.now))
+    (text_by c.args.s c.args.size (length t.bytes.now - p.byte))
+    c.element_rules.result _ (c.element_rules.ensures y) c.in_err-element_rules.was)
+    (search rules)

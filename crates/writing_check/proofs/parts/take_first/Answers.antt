@@ -1,31 +1,34 @@
--- The rules of the points refuse (`part-stop`); or the points are below 2^32, and with no head the pools' answer is the part's (`first_on`).
+-- A part is the rules on its points, and then its pools (`part_takes`); points that are let through are below 2^32.
+use lib.ListN.{get_or}
 use native.Mathlib.Omega.{arith}
+use Rattle.std.proofs.Common.{rules}
 use Rattle.fields.proofs.Laws.Chain.{step_holds}
 use Rattle.layout.specs.Layout.Sizes.{part_bytes}
 use Rattle.layout.specs.Shared.Row.{reference_of}
 use Rattle.layout.specs.Writing.Parts.{first_rules}
-use Rattle.writing_check.proofs.Laws.Parts.{part-stop, first_on, first_small}
+use Rattle.writing_check.specs.Places.{lists}
+use Rattle.writing_check.proofs.Laws.Parts.{part_takes, head_none, first_small}
 use Rattle.writing_check.proofs.parts.take_first.Goals as goal
 
 pub take_pools-requires : goal.take_pools-requires
 take_pools-requires c =
-    let h = c.requires.0 in (
-      c.requires.1,
-      h.byte,
-      omega arith,
-      h.length,
-      first_small _ _ _ (step_holds 0 _ _ c.first_rules.result (c.first_rules.ensures 0) c.in-Fine.is),
-      omega arith,
-    )
+    let points = get_or c.args.t.now.numbers.now c.args.p.number 0 in
+    let holds = step_holds 0 c.args.p.number (first_rules c.args.mark c.args.word points) c.first_rules.result (c.first_rules.ensures 0) tt c.in_ok-first_rules.was in
+    (c.requires.0, c.requires.1, first_small _ _ points holds, omega arith)
 
-pub returns-in-Fine : goal.returns-in-Fine
-returns-in-Fine c =
-    λ y. first_on y c.args.table.now c.args.elements.now c.args.bytes.now c.args.p
-    (reference_of c.args.reference) (first_rules c.args.mark c.args.word) c.first_rules.result
-    (c.first_rules.ensures y) c.in-Fine.is _ (c.take_pools.ensures y c.args.table.now)
+pub returns : goal.returns
+returns c = λ y.
+    rw (
+      part_takes y (lists c.args.t.now) c.args.p (reference_of c.args.reference) (first_rules c.args.mark c.args.word) (part_bytes (reference_of c.args.reference)),
+      ← c.first_rules.ensures y,
+      c.in_ok-first_rules.was,
+      head_none,
+    ) (c.take_pools.ensures y)
 
-pub returns-in-Refused : goal.returns-in-Refused
-returns-in-Refused c =
-    λ y. part-stop y c.args.table.now c.args.elements.now c.args.bytes.now c.args.p
-    (reference_of c.args.reference) (first_rules c.args.mark c.args.word) (part_bytes (reference_of c.args.reference))
-    c.first_rules.result (c.first_rules.ensures y) _ c.in-Refused.is
+pub returns-in_err-first_rules : goal.returns-in_err-first_rules
+returns-in_err-first_rules c = λ y.
+    rw (
+      part_takes y (lists c.args.t.now) c.args.p (reference_of c.args.reference) (first_rules c.args.mark c.args.word) (part_bytes (reference_of c.args.reference)),
+      ← c.first_rules.ensures y,
+      c.in_err-first_rules.was,
+    ) (search rules)

@@ -1,43 +1,28 @@
-use native.Mathlib.Omega.{arith}
+-- Later parts follow each other in two numbers each, and each call is the taker of a later part.
+use mathlib.Core.List.{[]}
+use Rattle.std.proofs.Common.{rules}
+use Rattle.layout.specs.Layout.Fine.{FineSubobject}
+use Rattle.layout.specs.Layout.Sizes.{subobject_bytes}
 use Rattle.layout.specs.Shared.Row.{reference_of}
-use Rattle.laws.proofs.Writing.Parts.{part-numbers}
-use Rattle.writing_check.proofs.Laws.Moves.{same_start, same_done, same_stop, same_turn}
-use Rattle.writing_check.proofs.Laws.Parts.{later_went, later_stopped, later-next}
+use Rattle.layout.specs.Walk.{up_to}
+use Rattle.layout.specs.Writing.Parts.{later_rules, take_part}
+use Rattle.layout.specs.Writing.Tables.{flatten_part}
+use Rattle.laws.proofs.Writing.Parts.{subobject_takes, part-numbers}
+use Rattle.writing_check.proofs.Laws.Moves.{in_keeps}
+use Rattle.writing_check.proofs.Laws.Pieces.{may_take, took_is}
+use Rattle.writing_check.specs.Places.{lists, In}
 use Rattle.writing_check.proofs.parts.take_laters.Goals as goal
 
-pub loop-left-init : goal.loop-left-init
-loop-left-init c =
-    (c.requires.0, c.requires.1, c.requires.2, λ y. same_start _ _ _ _ _ _ _ _)
-
-pub take_later-requires : goal.take_later-requires
-take_later-requires c =
-    (c.loop-left.invariant.0, c.loop-left.invariant.1, omega arith)
-
-pub returns-in-Refused : goal.returns-in-Refused
-returns-in-Refused c =
-    λ y. same_stop _ _ _ _ _ _ _ _ _ _ (c.loop-left.invariant.3 y) (omega arith) _
-    (later_stopped y c.args.table.now c.args.elements.now c.args.bytes.now (reference_of c.args.reference)
-    c.args.marked _ c.loop-left.invariant.0 (omega arith) c.take_later.result (c.take_later.ensures y) _
-    c.in-Refused.is)
-
-pub loop-left-preserved : goal.loop-left-preserved
-loop-left-preserved c =
-    let h = c.loop-left.invariant.0 in
-    let w = later_went 0 c.args.table.now c.args.elements.now c.args.bytes.now
-    (reference_of c.args.reference) c.args.marked _ h (omega arith) c.take_later.result
-    (c.take_later.ensures 0) _ c.in-Fine.is in
-    let n = later-next 0 c.args.table.now c.args.elements.now c.args.bytes.now
-    (reference_of c.args.reference) c.args.marked _ h (omega arith) c.take_later.result
-    (c.take_later.ensures 0) _ c.in-Fine.is in (
-      w.at,
-      w.element c.loop-left.invariant.1,
-      omega (arith, n),
-      λ y. same_turn _ _ _ _ _ _ _ _ _ _ _ _ part-numbers (c.loop-left.invariant.3 y) (omega arith)
-          (later_went y c.args.table.now c.args.elements.now c.args.bytes.now (reference_of c.args.reference)
-          c.args.marked _ h (omega arith) c.take_later.result (c.take_later.ensures y) _ c.in-Fine.is),
-    )
+pub take_all-requires : goal.take_all-requires
+take_all-requires c =
+    let ref = reference_of c.args.reference in
+    may_take (up_to 0) 2 (take_part ref (later_rules c.args.marked)) flatten_part (FineSubobject ref c.args.marked) (λ a. [])
+    (subobject_takes (up_to 0) ref c.args.marked) (subobject_bytes ref) part-numbers (In c.args.t.now.elements.now) (lists c.args.t.now) (in_keeps c.args.t.now.elements.now) _ _
+    (λ q m f. search rules) c.args.n c.args.p c.requires.0 c.requires.1 (λ q h room. search rules)
 
 pub returns : goal.returns
-returns c =
-    let h = c.loop-left.invariant.0 in
-    λ y. same_done _ _ _ _ _ _ _ _ _ _ (c.loop-left.invariant.3 y) (omega arith) h.length
+returns c = λ y.
+    let ref = reference_of c.args.reference in
+    took_is (up_to y) 2 (take_part ref (later_rules c.args.marked)) flatten_part (FineSubobject ref c.args.marked) (λ a. [])
+    (subobject_takes (up_to y) ref c.args.marked) (subobject_bytes ref) part-numbers (In c.args.t.now.elements.now) (lists c.args.t.now) (in_keeps c.args.t.now.elements.now) (λ q. Unit {0}) _
+    (λ q m f. search rules) c.args.n c.args.p c.take_all.result c.requires.0 c.requires.1 c.take_all.ensures

@@ -4,7 +4,7 @@ use Rattle.writing_emit.proofs.headers.put_header.Goals as goal
 
 pub returns : goal.returns
 returns c =
-    header-wrote c.args.table.now c.args.at c.args.out.now _ _ _ _ c.args.w c.args.metric
+    header-wrote c.args.row.now c.args.out.now _ _ _ _ c.args.w c.args.metric
     c.args.semantics c.put_lengths.ensures c.put_names.ensures
     c.put_reference_and_word.ensures
     c.put_counts.ensures

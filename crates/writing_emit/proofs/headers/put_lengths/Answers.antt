@@ -4,5 +4,5 @@ use Rattle.writing_emit.proofs.headers.put_lengths.Goals as goal
 
 pub returns : goal.returns
 returns c =
-    lengths_wrote c.args.out.now _ _ _ c.args.w c.args.metric c.args.semantics c.put_u32.ensures
-    c.put_u32-2.ensures c.put_u32-3.ensures
+    lengths_wrote c.args.out.now _ _ _ c.args.w c.args.metric c.args.semantics c.put.ensures
+    c.put-2.ensures c.put-3.ensures

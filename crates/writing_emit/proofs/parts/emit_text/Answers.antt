@@ -4,20 +4,20 @@ use Rattle.writing_emit.proofs.Laws.Parts.{text-some, text-wrote, text-none}
 use native.Mathlib.Omega.{arith}
 use Rattle.writing_emit.proofs.parts.emit_text.Goals as goal
 
-pub put_u8-requires : goal.put_u8-requires
-put_u8-requires c =
+pub put-requires : goal.put-requires
+put-requires c =
     let a = text-some c.args.bytes.now c.args.at c.args.n c.args.text c.if-text.true c.requires.0 in
     omega (arith, a, c.requires.2)
 
 pub put_bytes-requires : goal.put_bytes-requires
 put_bytes-requires c =
     let a = text-some c.args.bytes.now c.args.at c.args.n c.args.text c.if-text.true c.requires.0 in
-    omega (arith, a, c.requires.0, c.requires.2, c.put_u8.auto)
+    omega (arith, a, c.requires.0, c.requires.2, c.put.auto)
 
-pub put_u8-requires-then-text : goal.put_u8-requires-then-text
-put_u8-requires-then-text c =
+pub put-requires-then-text : goal.put-requires-then-text
+put-requires-then-text c =
     let a = text-some c.args.bytes.now c.args.at c.args.n c.args.text c.if-text.true c.requires.0 in
-    omega (arith, a, c.requires.2, c.put_u8.auto, c.put_bytes.auto)
+    omega (arith, a, c.requires.2, c.put.auto, c.put_bytes.auto)
 
 pub returns-then-text : goal.returns-then-text
 returns-then-text c =
@@ -27,8 +27,8 @@ returns-then-text c =
         omega (arith, c.requires.1),
       );
       wrote = text-wrote c.args.bytes.now c.args.at c.args.n c.args.text c.if-text.true c.requires.0
-          c.args.out.now _ _ _ c.args.w c.put_u8.ensures c.put_bytes.ensures
-          c.put_u8-then-text.ensures;
+          c.args.out.now _ _ _ c.args.w c.put.ensures c.put_bytes.ensures
+          c.put-then-text.ensures;
     }
 
 pub returns : goal.returns

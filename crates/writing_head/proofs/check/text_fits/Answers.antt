@@ -2,5 +2,4 @@
 use Rattle.writing_head.proofs.check.text_fits.Goals as goal
 
 pub returns : goal.returns
-returns c =
-    λ y. rw (c.is_text.ensures c.args.place) at (c.demand.ensures y)
+returns c = rw (← c.is_text.ensures c.args.place) c.demand.ensures

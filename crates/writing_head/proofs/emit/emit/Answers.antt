@@ -2,24 +2,18 @@
 use mathlib.Core.Path.{ap, ◌∙◌}
 use lib.Seq.{sets}
 use Rattle.writing_head.proofs.Laws.Sofar.{first, next, start-length, name_length, descriptor-length, head-parts}
-use Rattle.layout.specs.Answers.Lent.{head_of}
-use Rattle.writing_head.specs.Heads.{start_bytes, name_bytes, descriptor_bytes}
+use Rattle.writing_head.specs.Heads.{start_bytes, name_bytes, descriptor_bytes, head_in}
 use Rattle.writing_head.proofs.emit.emit.Goals as goal
 
 pub returns : goal.returns
 returns c =
-    let o = c.args.out.now in
-    let date = c.args.date.now in
-    let designation = c.args.designation.now in
+    let t = c.args.t in
+    let f = c.requires.0 in
     let scale = c.args.scale in
-    let title = c.args.title.now in
-    let rest = c.args.rest.now in
-    let designation2 = c.args.designation2.now in
-    let carried = c.args.carried.now in
     let count = c.args.count in
-    let a = first o 0 (start_bytes date) 28 _ (start-length date c.requires.0) c.emit_start.ensures in
-    let b = next a (name_bytes designation scale title rest) 372 _
-    (name_length designation scale title rest c.requires.1 c.requires.2 c.requires.3) c.emit_names.ensures in
-    let d = next b (descriptor_bytes designation2 count carried) 52 _
-    (descriptor-length designation2 count carried c.requires.4 c.requires.5) c.emit_descriptor.ensures in
-    d.is ∙ ap (λ u. sets o 0 u) (head-parts (head_of date designation scale title rest designation2 carried) count)
+    let a = first c.args.out.now 0 (start_bytes t.date.now) 28 _ (start-length t.date.now f.date) c.emit_start.ensures in
+    let b = next a (name_bytes t.designation.now scale t.title.now t.rest.now) 372 _
+    (name_length t.designation.now scale t.title.now t.rest.now f.designation f.title f.rest) c.emit_names.ensures in
+    let d = next b (descriptor_bytes t.designation2.now count t.carried.now) 52 _
+    (descriptor-length t.designation2.now count t.carried.now f.designation2 f.carried) c.emit_descriptor.ensures in
+    d.is ∙ ap (λ u. sets c.args.out.now 0 u) (head-parts (head_in scale t) count)

@@ -10,7 +10,7 @@ pub returns : goal.returns
 returns c =
     let a = first c.args.out.now 28 (padded Passport.designation c.args.designation.now) 32 _
     (padded-length Passport.designation c.args.designation.now c.requires.0) c.put_text.ensures in
-    let b = next a (bytes 4 c.args.scale) 4 _ refl c.put_u32.ensures in
+    let b = next a (bytes 4 c.args.scale) 4 _ refl c.put.ensures in
     let d = next b (padded Passport.title c.args.title.now) 32 _ (padded-length Passport.title c.args.title.now c.requires.1)
     c.put_text-2.ensures in
     (next d c.args.rest.now 304 _ c.requires.2

@@ -18,4 +18,4 @@ sheet_sum-sum-requires c =
 pub returns : goal.returns
 returns c =
     let out = c.args.out.now in
-    c.put_u32.ensures ∙ ap (λ (v : ℕ). sets out 12 (bytes 4 v)) c.sheet_sum-sum.ensures
+    c.put.ensures ∙ ap (λ (v : ℕ). sets out 12 (bytes 4 v)) c.sheet_sum-sum.ensures

@@ -1,2 +1,0 @@
--- What the proofs of functions rest on.
-pub mod Numbers

@@ -1,9 +1,0 @@
--- The two tests have their bounds by bit patterns, the call asks them as `fin s m e`: one value once `of_bits` and `neg` are unfolded.
-use Rattle.std.proofs.Common.{T, sym, subst}
-use lib.Ieee.{of_bits, neg}
-use Rattle.cases.proofs.values.whole.Goals as goal
-
-pub truncating_f64_to_u64-requires : goal.truncating_f64_to_u64-requires
-unfolding of_bits neg
-truncating_f64_to_u64-requires c =
-    record { lower_bound = subst T (sym c.if-x.true) tt; upper_bound = subst T (sym c.if-x-2.true) tt }
