@@ -22,7 +22,7 @@ pub trait Answered {
         ensures { result ≡ as_row (Err r) };
 }
 
-pub fn row_of<T: Answered>(answer: Result<T, Refusal>) -> T::Row
+pub(crate) fn row_of<T: Answered>(answer: Result<T, Refusal>) -> T::Row
     requires { (x : T) → answer ≡ Ok x → T.defined x }
     ensures { result ≡ T.as_row answer }
 {
