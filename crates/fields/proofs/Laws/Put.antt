@@ -4,8 +4,8 @@ use borrow.Rule.Slice.PartMut.{put_mid}
 use mathlib.Core.List.{List, [], ◌∷◌, ◌++◌, append_assoc}
 use mathlib.Core.Path.{◌≡◌, refl, sym, ap, ◌∙◌}
 use Prim.Native.Nat.{ℕ, zero, suc, ◌+◌, ◌-◌, ◌*◌, ◌≤◌, ◌<◌}
-use lib.ListN.{length, take, drop, set}
-use lib.Seq.{sets, sets-eq, drop-drop, length-sets, set_comm}
+use lib.ListN.{length, get_or, take, drop, set, length-set}
+use lib.Seq.{sets, sets-eq, drop-drop, drop-cons, length-sets, set_comm}
 use native.Mathlib.Nat.{mul-suc, add-zero, one-mul}
 use native.Mathlib.Omega.{arith}
 use Rattle.layout.specs.Bytes.{number, numbers, repeat, total}
@@ -80,6 +80,28 @@ module _ (k : ℕ) (xs : List ℕ) (at n w : ℕ) (out₀ : List ℕ) where
   put_one i out v g h e =
       let one : total (k ∷ []) ≡ k = omega arith in
       put_turn (k ∷ []) xs at n w out₀ i out (set out (w + i) v) g h (rw (one, one-mul, ← e) refl)
+
+-- bytes, one after another
+pub take_cons : (n i : ℕ) (xs : List ℕ) → 0 < n → i < length xs → take n (drop i xs) ≡ get_or xs i 0 ∷ take (n - 1) (drop (i + 1) xs)
+take_cons zero i xs h k = absurd (omega arith)
+take_cons (suc n) i xs h k = let e : suc n - 1 ≡ n = omega arith in let j : i + 1 ≡ suc i = omega arith in rw (e, j, drop-cons xs i 0 k) refl
+
+module _ (xs : List ℕ) (at n w : ℕ) (out₀ : List ℕ) where
+  pub record Copying (i : ℕ) (out : List ℕ) : Type 0 where
+    pub len : length out ≡ length out₀
+    pub le : i ≤ n
+    pub eq : sets out₀ w (take n (drop at xs)) ≡ sets out (w + i) (take (n - i) (drop (at + i) xs))
+
+  pub copy_turn : (i : ℕ) (out : List ℕ) → Copying i out → i < n → at + n ≤ length xs → (x : ℕ) → x ≡ get_or xs (at + i) 0 → Copying (i + 1) (set out (w + i) x)
+  copy_turn i out g h fits x e =
+      let m : n - i - 1 ≡ n - (i + 1) = omega arith in
+      let q : at + i + 1 ≡ at + (i + 1) = omega arith in
+      let r : suc (w + i) ≡ w + (i + 1) = omega arith in
+      record {
+        len = length-set out (w + i) x ∙ g.len;
+        le = omega arith;
+        eq = g.eq ∙ rw (take_cons (n - i) (at + i) xs (omega arith) (omega arith), ← e, m, q, ← r) refl;
+      }
 
 -- the three stores of a point whose height is wider than its other elements
 pub point-turn : (out xs : List ℕ) (o k x y h : ℕ) → x ≡ number 2 (drop k xs) → y ≡ number 2 (drop (k + 2) xs) → h ≡ number 4 (drop (k + 4) xs)
