@@ -6,6 +6,8 @@
 // that error.
 #![tactic(auto)]
 
+ghost use Rattle.std.specs.Prelude.{◌≤◌, length, IfOk};
+
 use layout::refusals::Reason;
 use layout::{RecordAt, Refusal};
 use reading::records::record_at;
@@ -14,7 +16,7 @@ use reading::sheets::check;
 use std::io::Read;
 use std::{fmt, io};
 
-// How many bytes a sheet may have. The buffer has room for these and does not grow.
+// How many bytes a sheet may have. The buffer has room for these, and stands on the stack, so that memory cannot run out.
 const MOST: usize = 65536;
 
 // A refusal: its number, place and year.
@@ -68,11 +70,26 @@ fn list(rt: &impl Print, s: &[u8]) -> io::Result<()> {
     }
 }
 
+// Reads until the buffer is full or the input ends, and answers how many bytes it put at the buffer's start.
+fn read_full(from: &mut impl Read, buffer: &mut [u8]) -> io::Result<usize>
+    ensures { IfOk result (λ n. n ≤ length buffer.new) }
+{
+    let mut done = 0;
+    while done < buffer.len() {
+        let n = from.read(&mut buffer[done..])?;
+        if n == 0 {
+            break;
+        }
+        done += n;
+    }
+    Ok(done)
+}
+
 fn main(rt: HostRuntime) -> io::Result<()> {
     let mut input = rt.reader();
-    let mut sheet = Vec::with_capacity(rt.alloc(), MOST)?;
-    io::copy(&mut input.by_ref().take(MOST as u64), &mut sheet)?;
-    if input.read(&mut [0u8; 1])? != 0 {
+    let mut sheet = [0u8; MOST];
+    let n = read_full(&mut input, &mut sheet)?;
+    if read_full(&mut input, &mut [0u8; 1])? != 0 {
         let too_long = Refusal {
             reason: Reason::TooLong,
             place: 0,
@@ -80,5 +97,5 @@ fn main(rt: HostRuntime) -> io::Result<()> {
         };
         return println!(rt; "{}", Refused(too_long));
     }
-    list(&rt, &sheet)
+    list(&rt, &sheet[..n])
 }

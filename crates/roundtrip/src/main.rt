@@ -8,7 +8,7 @@
 //
 // Promised: it is safe and it ends. What disagrees prints a FAILED line with its name and setting, all else a line of its own; the
 // gate compares all of it with the file `stdout` beside this. A slice that is compared was filled beforehand, and is compared to its
-// end. A write that fails, and memory that runs out, end the program with that error.
+// end. A write that fails ends the program with that error.
 //
 // Not tried here: the sample `long`. Its 32,000 elements have no room in a buffer of 65,536 bytes; `tables` has a line of 8,000.
 #![tactic(auto)]

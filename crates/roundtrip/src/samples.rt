@@ -1,4 +1,6 @@
 // The sample sheets: unfolded, written again, and compared byte for byte.
+ghost use Rattle.std.specs.Prelude.{◌≤◌, length};
+
 use crate::parts::{carried_of, part, rest_of, start};
 use crate::same::{FILL, FILL_BYTE, bytes_as};
 use crate::tables::Table;
@@ -7,7 +9,6 @@ use layout::{HeadAt, descriptor, passport};
 use meanings::setting::Setting;
 use reading::heads::head_of;
 use reading::sheets::unfold;
-use std::alloc::Global;
 use std::fs::File;
 use std::io;
 use std::io::Read;
@@ -68,22 +69,38 @@ fn is_again(s: &[u8], at: Setting) -> bool {
     }
 }
 
-// The bytes of a file. One that cannot be opened has none, and one of which a read fails those before it.
-fn bytes_of(rt: &(impl Files + AllocGlobal), path: &str) -> io::Result<Vec<u8>> {
-    let mut sheet = Vec::with_capacity(rt.alloc(), BYTES)?;
-    if let Ok(file) = File::open(rt, path) {
-        let _ = io::copy(&mut file.take(BYTES as u64), &mut sheet);
+// Reads until the buffer is full, the input ends or a read fails, and answers how many bytes it put at the buffer's start.
+fn read_full(from: &mut impl Read, buffer: &mut [u8]) -> usize
+    ensures { result ≤ length buffer.new }
+{
+    let mut done = 0;
+    while done < buffer.len() {
+        match from.read(&mut buffer[done..]) {
+            Ok(0) | Err(_) => return done,
+            Ok(n) => done += n,
+        }
     }
-    Ok(sheet)
+    done
 }
 
-// The sheet of a file. One that cannot be opened or read counts as an empty sheet, which fails.
-fn sample(rt: &(impl Files + Print + AllocGlobal), name: &str, at: &[Setting]) -> io::Result<()> {
-    let path = format!(in rt.alloc(); "{name}.sxf")?;
-    let sheet = bytes_of(rt, &path)?;
+// The same from a file, of which one that cannot be opened has no bytes.
+fn read_file(rt: &impl Files, path: &str, buffer: &mut [u8]) -> usize
+    ensures { result ≤ length buffer.new }
+{
+    match File::open(rt, path) {
+        Ok(mut file) => read_full(&mut file, buffer),
+        Err(_) => 0,
+    }
+}
+
+// The sheet of a file, which each setting opens anew. One that cannot be opened or read counts as an empty sheet, which fails.
+fn sample(rt: &(impl Files + Print), path: &str, at: &[Setting]) -> io::Result<()> {
+    let name = path.strip_suffix(".sxf").unwrap_or(path);
     for at in at.iter().copied() {
-        let outcome = if is_again(&sheet, at) {
-            Outcome::Again(sheet.len())
+        let mut sheet = [0u8; BYTES];
+        let length = read_file(rt, path, &mut sheet);
+        let outcome = if is_again(&sheet[..length], at) {
+            Outcome::Again(length)
         } else {
             Outcome::Failed
         };
@@ -92,13 +109,19 @@ fn sample(rt: &(impl Files + Print + AllocGlobal), name: &str, at: &[Setting]) -
     Ok(())
 }
 
-pub fn all(rt: &(impl Files + Print + AllocGlobal)) -> io::Result<()> {
+pub fn all(rt: &(impl Files + Print)) -> io::Result<()> {
     // Document 01's own sheets have nothing of a later year than 1999.
-    for name in ["E", "P", "Q"] {
-        sample(rt, name, &[Setting::Y1999, Setting::Y2008, Setting::Y2017])?;
+    for path in ["E.sxf", "P.sxf", "Q.sxf"] {
+        sample(rt, path, &[Setting::Y1999, Setting::Y2008, Setting::Y2017])?;
     }
-    for name in ["head", "labels", "heights", "items", "dated"] {
-        sample(rt, name, &[Setting::Y2017])?;
+    for path in [
+        "head.sxf",
+        "labels.sxf",
+        "heights.sxf",
+        "items.sxf",
+        "dated.sxf",
+    ] {
+        sample(rt, path, &[Setting::Y2017])?;
     }
-    sample(rt, "mark-small", &[Setting::Y2004, Setting::Y2017])
+    sample(rt, "mark-small.sxf", &[Setting::Y2004, Setting::Y2017])
 }

@@ -5,7 +5,6 @@ use crate::tell::{Line, Outcome};
 use layout::{Refusal, passport};
 use meanings::setting::Setting;
 use reading::sheets::unfold;
-use std::alloc::{AllocError, Global};
 use std::io;
 use writing::sheets::write;
 
@@ -123,15 +122,13 @@ const SHORE: Table = Table {
 };
 
 // Elements of which no two are the same, and no byte is always zero.
-fn varied(alloc: Global) -> Result<Vec<u64>, AllocError> {
-    (0u64..8000)
-        .map(|i| i.wrapping_mul(0x0103050709111317))
-        .collect(alloc)
+fn varied() -> [u64; 8000] {
+    std::array::from_fn(|i| (i as u64).wrapping_mul(0x0103050709111317))
 }
 
 // A line of 4,000 points, of two doubles each: reference bytes 0, 4 and 4.
-fn long_line(rt: &(impl Print + AllocGlobal)) -> io::Result<()> {
-    let elements = varied(rt.alloc())?;
+fn long_line(rt: &impl Print) -> io::Result<()> {
+    let elements = varied();
     let table = Table {
         numbers: &[4, 0, 0, 263168, 255, 0, 1, 0, 0, 4000, 0],
         elements: &elements,
@@ -140,7 +137,7 @@ fn long_line(rt: &(impl Print + AllocGlobal)) -> io::Result<()> {
     tried(rt, "long line", table, &[Setting::Y1999, Setting::Y2017])
 }
 
-pub fn all(rt: &(impl Print + AllocGlobal)) -> io::Result<()> {
+pub fn all(rt: &impl Print) -> io::Result<()> {
     let of_1999 = [
         Setting::Y1999,
         Setting::Y2004,
