@@ -14,7 +14,6 @@ use reading::setting::Setting;
 use reading::units::unit_of;
 use reading::values::value_of;
 use reading::visibility::visibility_of;
-use std::alloc::Global;
 use std::str::FromStr;
 use std::{fmt, io};
 
@@ -97,27 +96,27 @@ fn constant(year: u64) -> Setting {
     }
 }
 
-pub fn run(rt: &impl Print, alloc: Global, form: &Form) -> io::Result<()> {
+pub fn run(rt: &impl Print, form: &Form) -> io::Result<()> {
     let Some(call) = form.call() else {
         return rt.print(BadLine);
     };
-    let asked = form.values(List::Ask)?;
-    let s = form.bytes(alloc, List::Sheet)?;
-    match (call, asked.as_slice()) {
-        (Call::Check, [year]) => answer(rt, reader::check(&s, *year)),
+    let bytes = form.all_bytes();
+    let s = form.bytes(&bytes, List::Sheet);
+    match (call, form.values(List::Ask)) {
+        (Call::Check, [year]) => answer(rt, reader::check(s, *year)),
         (Call::Unfold, [year, numbers, elements, bytes]) => {
             let rooms = Rooms {
                 numbers: *numbers,
                 elements: *elements,
                 bytes: *bytes,
             };
-            reader::unfold(rt, alloc, &s, *year, rooms)
+            reader::unfold(rt, s, *year, rooms)
         }
-        (Call::Record, [year, number]) => answer(rt, reader::record(&s, *year, *number)),
-        (Call::Head, [year]) => answer(rt, reader::head(&s, *year)),
-        (Call::Unit, [year]) => answer(rt, reader::unit(&s, *year)),
-        (Call::Corners, [year]) => answer(rt, reader::corners(&s, *year)),
-        (Call::Write, [year, room]) => writer::write(rt, alloc, form, *year, *room),
+        (Call::Record, [year, number]) => answer(rt, reader::record(s, *year, *number)),
+        (Call::Head, [year]) => answer(rt, reader::head(s, *year)),
+        (Call::Unit, [year]) => answer(rt, reader::unit(s, *year)),
+        (Call::Corners, [year]) => answer(rt, reader::corners(s, *year)),
+        (Call::Write, [year, room]) => writer::write(rt, form, &bytes, *year, *room),
         (Call::Setting, [year]) => answer(rt, setting_of(*year)),
         (Call::Constant, [year]) => answer(rt, constant(*year)),
         (Call::Visibility, [flags, byte]) => answer(
@@ -138,7 +137,7 @@ pub fn run(rt: &impl Print, alloc: Global, form: &Form) -> io::Result<()> {
             ),
         ),
         (Call::Coordinate, [reference, by, bits]) => {
-            let rest = writer::rest_of(alloc, form)?;
+            let rest = writer::rest_of(form, &bytes);
             answer(
                 rt,
                 coordinate_of(&rest, low_word(*reference), dimension(*by), *bits),

@@ -9,17 +9,11 @@ use crate::calls::Call;
 use crate::lists::List;
 use crate::words::{BadLine, Word, is_blank, whole_words};
 use layout::passport;
-use std::alloc::{AllocError, Global};
 
 // How many places a list has, and all lists.
 const PLACES: usize = 512;
 
 const ALL_PLACES: usize = 7680;
-
-// How many values a list and the sheet have room for.
-const ROOM: usize = 511;
-
-const SHEET_ROOM: usize = 2047;
 
 // In the order in which they stand.
 const LISTS: [List; 12] = [
@@ -37,58 +31,16 @@ const LISTS: [List; 12] = [
     List::Sheet,
 ];
 
-// How many values a list has, and all that it has room for. Those not given are zeros.
-#[derive(Drop)]
-struct Values {
-    count: usize,
-    places: Vec<u64>,
-}
+// The bytes of all places, of which those of a list are a part.
+pub type Bytes = [u8; ALL_PLACES];
 
 #[derive(Drop)]
 pub struct Form {
     call: Option<Call>,
-    lists: [Values; 12],
+    // of each list its count, and then its values; those not given are zeros
+    places: [u64; ALL_PLACES],
     // the place of the next value
     next: usize,
-}
-
-impl Values {
-    fn new(alloc: Global, room: usize) -> Result<Values, AllocError> {
-        Ok(Values {
-            count: 0,
-            places: vec![in alloc; 0; room]?,
-        })
-    }
-
-    // A place is counted from that of the count on, which takes no value.
-    fn put(&mut self, at: usize, value: u64) -> Option<()> {
-        let place = self.places.get_mut(at.checked_sub(1)?)?;
-        *place = value;
-        self.count = self.count.max(at);
-        Some(())
-    }
-
-    // Puts the sum of a sheet, whose four bytes at 12 are zero, unless the line has put one that does not end in a zero byte.
-    fn put_sum(&mut self) {
-        let values = self.places.iter().take(self.count);
-        let sum = values.fold(0u64, |sum, value| sum.wrapping_add(*value));
-        if self.places.get(passport::SUM) == Some(&0) {
-            for (i, byte) in sum.to_le_bytes().into_iter().take(3).enumerate() {
-                if let Some(place) = self.places.get_mut(passport::SUM + i) {
-                    *place = u64::from(byte);
-                }
-            }
-        }
-    }
-}
-
-// How many values the list that stands there has room for. The sheet is the last, and has all that is left.
-fn room_of(list: usize) -> usize {
-    if list < List::Sheet as usize {
-        ROOM
-    } else {
-        SHEET_ROOM
-    }
 }
 
 // The list that has a place.
@@ -112,12 +64,12 @@ fn limit_of(list: List) -> u64 {
 }
 
 impl Form {
-    pub fn new(alloc: Global) -> Result<Form, AllocError> {
-        Ok(Form {
+    pub fn new() -> Form {
+        Form {
             call: None,
-            lists: std::array::try_from_fn(|i| Values::new(alloc, room_of(i)))?,
+            places: [0; ALL_PLACES],
             next: 0,
-        })
+        }
     }
 
     pub fn call(&self) -> Option<Call> {
@@ -134,11 +86,12 @@ impl Form {
 
     fn put(&mut self, value: u64) -> Result<(), BadLine> {
         let list = list_at(self.next);
-        if ALL_PLACES <= self.next || limit_of(list) <= value {
+        let start = start_of(list);
+        if self.next <= start || ALL_PLACES <= self.next || limit_of(list) <= value {
             return Err(BadLine);
         }
-        let at = self.next.checked_sub(start_of(list)).ok_or(BadLine)?;
-        self.lists[list as usize].put(at, value).ok_or(BadLine)?;
+        self.places[self.next] = value;
+        self.places[start] = self.places[start].max((self.next - start) as u64);
         self.next += 1;
         Ok(())
     }
@@ -146,7 +99,7 @@ impl Form {
     fn take(&mut self, word: Word) -> Result<(), BadLine> {
         match word {
             Word::Place(n) => self.next = start_of(self.marked()) + 1 + usize::from(n),
-            Word::Count(n) => self.lists[self.marked() as usize].count = usize::from(n),
+            Word::Count(n) => self.places[start_of(self.marked())] = u64::from(n),
             Word::Number(n) => self.put(n)?,
             Word::Letters(letters) => {
                 for letter in letters.iter().filter(|letter| **letter != b'\'') {
@@ -175,37 +128,46 @@ impl Form {
         Ok(())
     }
 
+    // Puts the sum of the sheet, whose four bytes at 12 are zero, unless the line has put one that does not end in a zero byte.
     pub fn put_sum(&mut self) {
-        self.lists[List::Sheet as usize].put_sum();
+        let values = self.values(List::Sheet).iter();
+        let sum = values.fold(0u64, |sum, value| sum.wrapping_add(*value));
+        let place = start_of(List::Sheet) + 1 + passport::SUM;
+        if self.places.get(place) == Some(&0) {
+            for (i, byte) in sum.to_le_bytes().into_iter().take(3).enumerate() {
+                if let Some(place) = self.places.get_mut(place + i) {
+                    *place = u64::from(byte);
+                }
+            }
+        }
     }
 
     // The first value of a list, also of one that has none.
     pub fn first(&self, list: List) -> u64 {
-        self.lists[list as usize]
-            .places
-            .first()
-            .copied()
-            .unwrap_or(0)
+        self.places.get(start_of(list) + 1).copied().unwrap_or(0)
     }
 
-    pub fn values(&self, list: List) -> Result<Vec<u64>, AllocError> {
-        let Values { count, places } = &self.lists[list as usize];
-        let mut values = places.clone()?;
-        for behind in self.lists.iter().skip(list as usize + 1) {
-            if *count <= values.len() {
-                break;
-            }
-            values.push(behind.count as u64)?;
-            values.extend_from_slice(&behind.places)?;
+    // So much of all places as the list says that it has.
+    fn part<'a, T>(&self, all: &'a [T], list: List) -> &'a [T] {
+        let start = start_of(list);
+        let count = self.places[start] as usize;
+        let behind = all.get(start + 1..).unwrap_or(&[]);
+        behind.get(..count).unwrap_or(behind)
+    }
+
+    pub fn values(&self, list: List) -> &[u64] {
+        self.part(&self.places, list)
+    }
+
+    pub fn all_bytes(&self) -> Bytes {
+        let mut bytes = [0u8; ALL_PLACES];
+        for (byte, n) in bytes.iter_mut().zip(self.places.iter()) {
+            *byte = (*n % 256) as u8;
         }
-        values.truncate(*count);
-        Ok(values)
+        bytes
     }
 
-    pub fn bytes(&self, alloc: Global, list: List) -> Result<Vec<u8>, AllocError> {
-        self.values(list)?
-            .iter()
-            .map(|n| (*n % 256) as u8)
-            .collect(alloc)
+    pub fn bytes<'a>(&self, all: &'a Bytes, list: List) -> &'a [u8] {
+        self.part(all, list)
     }
 }

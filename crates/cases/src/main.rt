@@ -1,6 +1,6 @@
 // Runs cases with stated answers: each line of the standard input is a case, and what it answers is printed behind its name. The cases stand in
 // the file `stdin` of this crate, which says at its top how a line is written, and the stated answers in `stdout`. A new case is a line in each.
-// A read or a write that fails, and memory that runs out, end it with that error.
+// A read or a write that fails ends it with that error.
 #![tactic(auto)]
 
 mod calls;
@@ -15,12 +15,11 @@ mod writer;
 ghost use Rattle.std.specs.Prelude.{◌≤◌, length, IfSome};
 
 use form::Form;
-use std::alloc::Global;
 use std::io;
 use std::io::Read;
 use words::BadLine;
 
-// How many bytes of input there are, with zeros after those that were read: a name that no blank follows has them too. The buffer does not grow.
+// How many bytes of input there are, with zeros after those that were read: a name that no blank follows has them too.
 const ROOM: usize = 65536;
 
 // What stands behind the = of the line that defines a letter. The first line defines none.
@@ -61,40 +60,51 @@ fn fill(form: &mut Form, text: &[u8], letter: u8, line: &[u8]) -> Result<(), Bad
 }
 
 // The name of a case goes on to the next blank.
-fn case(rt: &impl Print, alloc: Global, text: &[u8], letter: u8, rest: &[u8]) -> io::Result<()> {
+fn case(rt: &impl Print, text: &[u8], letter: u8, rest: &[u8]) -> io::Result<()> {
     let end = rest.iter().position(|b| *b == b' ').unwrap_or(rest.len());
     let (name, line) = rest.split_at(end);
     rt.write_all(name)?;
     rt.print(":")?;
-    let mut form = Form::new(alloc)?;
+    let mut form = Form::new();
     match fill(&mut form, text, letter, line) {
-        Ok(()) => calls::run(rt, alloc, &form)?,
+        Ok(()) => calls::run(rt, &form)?,
         Err(bad) => rt.print(bad)?,
     }
     rt.print("\n")
 }
 
 // A case begins with the letter of its sheet, or -, and a blank.
-fn cases(rt: &impl Print, alloc: Global, text: &[u8]) -> io::Result<()> {
+fn cases(rt: &impl Print, text: &[u8]) -> io::Result<()> {
     let mut rest = text;
     for line in text.split_inclusive(|b| *b == b'\n') {
         if let [letter, b' ', case_of @ ..] = rest
             && *letter != b'#'
         {
-            case(rt, alloc, text, *letter, case_of)?;
+            case(rt, text, *letter, case_of)?;
         }
         rest = rest.get(line.len()..).unwrap_or(&[]);
     }
     Ok(())
 }
 
+// Reads until the buffer is full or the input ends, and answers how many bytes it put at the buffer's start.
+fn read_full(from: &mut impl Read, buffer: &mut [u8]) -> io::Result<usize> {
+    let mut done = 0;
+    while done < buffer.len() {
+        let n = from.read(&mut buffer[done..])?;
+        if n == 0 {
+            break;
+        }
+        done += n;
+    }
+    Ok(done)
+}
+
 fn main(rt: HostRuntime) -> io::Result<()> {
-    let alloc = rt.alloc();
-    let mut text = Vec::with_capacity(alloc, ROOM)?;
-    let n = io::copy(&mut rt.reader().take(ROOM as u64), &mut text)?;
-    text.resize(ROOM, 0)?;
-    cases(&rt, alloc, &text)?;
-    if n == ROOM as u64 {
+    let mut text = [0u8; ROOM];
+    let n = read_full(&mut rt.reader(), &mut text)?;
+    cases(&rt, &text)?;
+    if n == ROOM {
         rt.print("TOO LONG\n")?;
     }
     Ok(())

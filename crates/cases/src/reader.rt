@@ -5,7 +5,6 @@ use crate::values::double_bits;
 use layout::{Corners, HeadAt, PlaneCorners, RecordAt, Refusal, SheetUnit, Sizes};
 use reading::setting::Setting;
 use reading::{heads, records, sheets};
-use std::alloc::Global;
 use std::{fmt, io};
 
 pub fn check(s: &[u8], year: u64) -> Result<Sizes, Refusal> {
@@ -21,23 +20,14 @@ pub struct Rooms {
 }
 
 // Into so much memory, of which all is printed after the answer.
-fn unfold_at(
-    rt: &impl Print,
-    alloc: Global,
-    s: &[u8],
-    at: Setting,
-    rooms: Rooms,
-) -> io::Result<()> {
-    let mut table = vec![in alloc; FILL; room(rooms.numbers, 64)]?;
-    let mut elements = vec![in alloc; FILL; room(rooms.elements, 64)]?;
-    let mut bytes = vec![in alloc; FILL_BYTE; room(rooms.bytes, 64)]?;
-    answer(
-        rt,
-        sheets::unfold(s, at, &mut table, &mut elements, &mut bytes),
-    )?;
-    let table = table.as_slice();
-    let elements = elements.as_slice();
-    let bytes = bytes.as_slice();
+fn unfold_at(rt: &impl Print, s: &[u8], at: Setting, rooms: Rooms) -> io::Result<()> {
+    let mut table = [FILL; 64];
+    let mut elements = [FILL; 64];
+    let mut bytes = [FILL_BYTE; 64];
+    let table = &mut table[..room(rooms.numbers, 64)];
+    let elements = &mut elements[..room(rooms.elements, 64)];
+    let bytes = &mut bytes[..room(rooms.bytes, 64)];
+    answer(rt, sheets::unfold(s, at, table, elements, bytes))?;
     print!(rt;
         " |{} |{} |{}",
         Numbers(table),
@@ -46,9 +36,9 @@ fn unfold_at(
     )
 }
 
-pub fn unfold(rt: &impl Print, alloc: Global, s: &[u8], year: u64, rooms: Rooms) -> io::Result<()> {
+pub fn unfold(rt: &impl Print, s: &[u8], year: u64, rooms: Rooms) -> io::Result<()> {
     match setting_of(year) {
-        Ok(at) => unfold_at(rt, alloc, s, at, rooms),
+        Ok(at) => unfold_at(rt, s, at, rooms),
         Err(r) => answer(rt, r),
     }
 }
