@@ -1,5 +1,5 @@
 -- The refusals by the documents' numbers and names: sixteen of document 01 (The refusals), and those of the requests of 02.
-use Rattle.std.specs.Prelude.{ℕ}
+use Rattle.std.specs.Prelude.{ℕ, ◌≡◌, refl}
 use Rattle.layout.specs.declared.refusals.Reason.{Reason}
 use Rattle.layout.specs.declared.refusals.Reason.TheVariants as For
 
@@ -97,3 +97,12 @@ refusal_number For.Room = 15
 refusal_number For.Ask = 16
 refusal_number For.NoCharacter = 17
 refusal_number For.BadBlock = 18
+
+-- each name and the number that the documents give it; that of BAD BLOCK is a case of laws (`blocks`, Cases/Index)
+numbers : (refusal_number TOO_LONG ≡ 1) × (refusal_number SHORT ≡ 2) × (refusal_number NOT_SXF ≡ 3)
+    × (refusal_number EDITION ≡ 4) × (refusal_number SUM ≡ 5) × (refusal_number TEXT ≡ 6)
+    × (refusal_number RESERVED ≡ 7) × (refusal_number TOO_NEW ≡ 8) × (refusal_number NOT_CARRIED ≡ 9)
+    × (refusal_number LENGTH ≡ 10) × (refusal_number COUNT ≡ 11) × (refusal_number SEMANTIC ≡ 12)
+    × (refusal_number LEFT_OVER ≡ 13) × (refusal_number TABLE ≡ 14) × (refusal_number ROOM ≡ 15)
+    × (refusal_number ASK ≡ 16) × (refusal_number NO_CHARACTER ≡ 17)
+numbers = (refl, refl, refl, refl, refl, refl, refl, refl, refl, refl, refl, refl, refl, refl, refl, refl, refl)

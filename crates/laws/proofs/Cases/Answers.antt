@@ -9,7 +9,7 @@ use Rattle.layout.specs.Answers.Enums.{checked_of, found_of, headed_of, unit_in,
 use Rattle.layout.specs.Computing.{computing}
 use Rattle.layout.specs.Layout.Uses.{years}
 use Rattle.layout.specs.Reading.Sheets.{sheet_walk}
-use Rattle.layout.specs.Refusals.{SUM, TOO_NEW, LENGTH, ROOM, ASK}
+use Rattle.layout.specs.Refusals.{SUM, TOO_NEW, LENGTH, ROOM, ASK, refusal_number}
 use Rattle.layout.specs.Sheet.{Table}
 use Rattle.layout.specs.Walk.{given, refused, Met, met}
 use Rattle.layout.specs.Writing.Tables.{table}
@@ -31,8 +31,9 @@ calls : (unfolded 2017 sheet_q (rooms 14 1 1) ≡ refused ROOM 1 0)
     × (checked_of (reading 2017 (sheet 796 0 [])) ≡ Err (record { reason = SUM; place = 12; year = 0 }))
     × (asked 2017 (sheet 796 0 []) 7 ≡ refused SUM 12 0)
     × (asked 2017 sheet_p 1 ≡ refused ASK 0 0)
+    × (refusal_number SUM ≡ 5)
 unfolding computing
-calls = (refl, refl, refl, refl, refl, refl, refl, refl)
+calls = (refl, refl, refl, refl, refl, refl, refl, refl, refl)
 
 -- Q's record as the third, behind two of P's
 found : found_of (asked 2017 (sealed (sheet 0 3 (point 2 0 36 [] ++ point 2 0 36 [] ++ point 2 2 42 (1 ∷ 0 ∷ 2 ∷ 255 ∷ 249 ∷ 4 ∷ [])))) 2)
@@ -74,8 +75,9 @@ views : (unit_in (reading 2017 sheet_e) ≡ Ok Unit-is.DevicePoints)
     -- the third corner is no number: its place, and all eight as stored
     × (corners_in (reading 2017 (sealed (with 126 (0xF8 ∷ 0x7F ∷ []) sheet_e)))
     ≡ Ok (Corners.Bits 120 (record { sw_x = 0; sw_y = 0; nw_x = 0x7FF8000000000000; nw_y = 0; ne_x = 0; ne_y = 0; se_x = 0; se_y = 0 })))
+    × (refusal_number SUM ≡ 5)
 unfolding computing nan_bits
-views = (refl, refl, refl, refl, refl)
+views = (refl, refl, refl, refl, refl, refl)
 
 -- A label of two parts in three dimensions, of floating elements, with an item of each type: the header,
 abbrev rich : List ℕ

@@ -12,7 +12,7 @@ use Rattle.layout.specs.Computing.{computing}
 use Rattle.layout.specs.Fields.{limit}
 use Rattle.layout.specs.Hop.{hit, no_hit, start_checks, hop_walk, hop, frame, passed}
 use Rattle.layout.specs.Reading.Sheets.{size_checks}
-use Rattle.layout.specs.Refusals.{TOO_LONG, SHORT, NOT_SXF, LENGTH}
+use Rattle.layout.specs.Refusals.{TOO_LONG, SHORT, NOT_SXF, LENGTH, refusal_number}
 use Rattle.layout.specs.Walk.{given, refused}
 use Rattle.laws.proofs.Samples.{with, sheet, point, sheet_e, sheet_p}
 use Rattle.std.specs.Prelude.{Ok, Err}
@@ -85,5 +85,6 @@ rows : (hopped_of (hop 8 three) ≡ Ok (hit 1 488 36)) × (hopped_of (hop 9 (tak
     × (hop_row (hopped_of (hop 9 three)) ≡ record { number = 0; place = 0; year = 0; found = 0; «record» = 0; at = 0; total = 0; looked = 3 })
     × (hop_row (hopped_of (hop 9 (with 492 (31 ∷ []) three)))
     ≡ record { number = 10; place = 492; year = 0; found = 0; «record» = 0; at = 0; total = 0; looked = 0 })
+    × (refusal_number SHORT ≡ 2)
 unfolding computing hop_row
-rows = (refl, refl, refl, refl, refl)
+rows = (refl, refl, refl, refl, refl, refl)

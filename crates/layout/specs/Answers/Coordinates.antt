@@ -4,7 +4,7 @@ use Rattle.std.specs.Prelude.{ℕ, ◌*◌, ◌^◌, Bool, true, false, cond, Li
 use Rattle.layout.specs.Answers.Enums.{refusal}
 use Rattle.layout.specs.Answers.Units.{rest_unit, rest_height_unit, unit_of, height_unit_of}
 use Rattle.layout.specs.Fields.Passport
-use Rattle.layout.specs.Refusals.{TABLE, ASK}
+use Rattle.layout.specs.Refusals.{TABLE, ASK, refusal_number}
 use Rattle.layout.specs.Shared.Reference.{element_size, floating, three_dimensions}
 use Rattle.layout.specs.Shared.Row.{reference_of}
 use Rattle.layout.specs.Shared.Row
@@ -81,7 +81,8 @@ elements : (element_in (of 0 0) North 7 ≡ Ok (As.Short 7)) × (element_in (of 
     × (element_in (of 0 0) East 65535 ≡ Ok (As.Short 65535)) × (element_in (of 0 0) East 65536 ≡ Err (refusal TABLE 0 0))
     × (element_in (of 4 0) East 4294967296 ≡ Err (refusal TABLE 0 0)) × (element_in (of 0 2) Height 4294967296 ≡ Err (refusal TABLE 0 0))
     × (element_in (of 4 6) Height 18446744073709551615 ≡ Ok (As.Double 18446744073709551615))
-elements = (refl, refl, refl, refl, refl, refl, refl, refl, refl, refl, refl, refl, refl, refl)
+    × (refusal_number ASK ≡ 16) × (refusal_number TABLE ≡ 14)
+elements = (refl, refl, refl, refl, refl, refl, refl, refl, refl, refl, refl, refl, refl, refl, refl, refl)
 
 -- passports' bytes from +96 on: none is set, or the plane is in metres by +96 and heights are of unknown unit by +237
 abbrev still : List ℕ
@@ -97,5 +98,6 @@ floats = 6 * 65536
 cases : (measure_of still 2 North 3 ≡ Ok (In.Plane Unit.DevicePoints (As.Short 3))) × (measure_of real 2 East 3 ≡ Ok (In.Plane Unit.Metres (As.Short 3)))
     × (measure_of still floats Height 3 ≡ Ok (In.Height High.Metres (As.Single 3))) × (measure_of real floats Height 3 ≡ Ok (In.Height (High.Unknown 9) (As.Single 3)))
     × (measure_of real 2 Height 3 ≡ Err (refusal ASK 0 0)) × (measure_of real 16777216 North 3 ≡ Err (refusal TABLE 3 0))
+    × (refusal_number ASK ≡ 16) × (refusal_number TABLE ≡ 14)
 unfolding measure_of element_of unit_of height_unit_of
-cases = (refl, refl, refl, refl, refl, refl)
+cases = (refl, refl, refl, refl, refl, refl, refl, refl)

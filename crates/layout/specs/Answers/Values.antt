@@ -7,7 +7,7 @@ use Rattle.layout.specs.Answers.Enums.{refusal}
 use Rattle.layout.specs.Answers.Units.{signed}
 use Rattle.layout.specs.Bytes.{number, bytes}
 use Rattle.layout.specs.Fields.Item as Field
-use Rattle.layout.specs.Refusals.{SEMANTIC}
+use Rattle.layout.specs.Refusals.{SEMANTIC, refusal_number}
 use Rattle.layout.specs.Shared.Types.{Kind, narrow, wide, long, integer, double, unknown, kind_of, good_scale}
 use Rattle.layout.specs.Sheet.{Item}
 use Rattle.layout.specs.declared.Refusal.{Refusal}
@@ -41,8 +41,9 @@ cases : (of 2 0xFF (0xF9 ∷ 0x04 ∷ []) ≡ Ok (Number (record { whole = pos 1
     × (of 1 127 (0xFF ∷ []) ≡ Ok (Number (record { whole = negsuc 0; power = pos 127 })))
     × (of 4 0x81 (0 ∷ 0 ∷ 0 ∷ 0x80 ∷ []) ≡ Ok (Number (record { whole = negsuc 2147483647; power = negsuc 126 })))
     × (of 4 0x80 (0 ∷ 0 ∷ 0 ∷ 0 ∷ []) ≡ Err (refusal SEMANTIC 3 0)) × (of 0 1 (65 ∷ 0 ∷ []) ≡ Ok (Other 0))
+    × (refusal_number SEMANTIC ≡ 12)
 unfolding semantic_value
-cases = (refl, refl, refl, refl, refl)
+cases = (refl, refl, refl, refl, refl, refl)
 
 -- An item by its type, its scale byte and its value as a number.
 -- The value has eight bytes. An item of type 1, 2 or 4 has only so many of them, the lowest, so that every number has an answer. An item's
@@ -64,5 +65,6 @@ item_cases : (semantic_value (item_of 2 0xFF 0x04F9) ≡ Ok (Number (record { wh
     × (semantic_value (item_of 0 1 65) ≡ Ok (Other 0)) × (semantic_value (item_of 126 1 65) ≡ Ok (Other 126)) × (semantic_value (item_of 127 1 65) ≡ Ok (Other 127))
     × (semantic_value (item_of 128 255 65) ≡ Ok (Other 128))
     × (semantic_value (item_of 3 0x80 65) ≡ Err (refusal SEMANTIC 2 0))
+    × (refusal_number SEMANTIC ≡ 12)
 unfolding semantic_value double_of nan_bits of_bits
-item_cases = (refl, refl, refl, refl, refl, refl, refl, refl, refl, refl, refl, refl, refl, refl, refl)
+item_cases = (refl, refl, refl, refl, refl, refl, refl, refl, refl, refl, refl, refl, refl, refl, refl, refl)

@@ -4,7 +4,7 @@
 use Rattle.std.specs.Prelude.{ℕ, suc, Bool, cond, List, [], ◌∷◌, map, ◌≡◌, refl, eqb, ltb, length, get_or}
 use Rattle.layout.specs.Answers.Calls.{in_room}
 use Rattle.layout.specs.Codings.Tables.{no_character, page866, page1251, koi8r}
-use Rattle.layout.specs.Refusals.{ASK, NO_CHARACTER, ROOM}
+use Rattle.layout.specs.Refusals.{ASK, NO_CHARACTER, ROOM, refusal_number}
 use Rattle.layout.specs.Shared.Carried.{label_coding}
 use Rattle.layout.specs.Walk.{Answer, given, refused}
 
@@ -60,5 +60,6 @@ refusals : (to_utf16 3 (0x41 ∷ []) 0 ≡ refused ASK 0 0) × (to_utf16 1 (0x41
     × (to_utf16 0 (0x41 ∷ 0x98 ∷ []) 1 ≡ refused ROOM 0 0) × (from_utf16 4294967295 (0xFFFF ∷ []) 0 ≡ refused ASK 0 0)
     × (from_utf16 1 (0xFFFF ∷ []) 1 ≡ refused NO_CHARACTER 0 0) × (from_utf16 0 (0x41 ∷ 0x00A0 ∷ 0x2026 ∷ []) 0 ≡ refused NO_CHARACTER 2 0)
     × (from_utf16 2 (0x41 ∷ 0xD83D ∷ []) 0 ≡ refused NO_CHARACTER 1 0) × (from_utf16 2 (0x41 ∷ 0x00A9 ∷ []) 1 ≡ refused ROOM 0 0)
+    × (refusal_number ASK ≡ 16) × (refusal_number NO_CHARACTER ≡ 17) × (refusal_number ROOM ≡ 15)
 unfolding turned first_of table_of character_of byte_of page866 page1251 koi8r
-refusals = (refl, refl, refl, refl, refl, refl, refl, refl)
+refusals = (refl, refl, refl, refl, refl, refl, refl, refl, refl, refl, refl)

@@ -3,7 +3,7 @@ use Rattle.std.specs.Prelude.{ℕ, ◌-◌, Bool, not, ◌&&◌, ◌||◌, List,
 use Rattle.layout.specs.Bytes.{Field, number_in, bytes_in, zeros, bits, bit}
 use Rattle.layout.specs.Fields.Descriptor
 use Rattle.layout.specs.Fields.Passport
-use Rattle.layout.specs.Refusals.{RESERVED}
+use Rattle.layout.specs.Refusals.{RESERVED, refusal_number}
 use Rattle.layout.specs.Walk.{Check, must, dated, checks, ends, stops, meets}
 use Rattle.layout.specs.Years.{since, accuracy_set, special_sorting, epsg_set, north_offset, east_offset, automatic_guid, edit_date}
 
@@ -70,8 +70,9 @@ rest_cases : (checks 0 (rest_checks (with 96 3)) ≡ ends tt) × (checks 0 (rest
     × (checks 0 (rest_checks (with 103 1)) ≡ meets 100 2017 (ends tt)) × (checks 0 (rest_checks (with 104 1)) ≡ ends tt)
     × (checks 0 (rest_checks (with 391 128)) ≡ meets 384 2004 (ends tt)) × (checks 0 (rest_checks (with 399 1)) ≡ meets 392 2004 (ends tt))
     × (checks 0 (rest_checks (with 383 1)) ≡ ends tt)
+    × (refusal_number RESERVED ≡ 7)
 unfolding rest_checks
-rest_cases = (refl, refl, refl, refl, refl, refl, refl, refl, refl, refl, refl, refl, refl, refl, refl, refl, refl)
+rest_cases = (refl, refl, refl, refl, refl, refl, refl, refl, refl, refl, refl, refl, refl, refl, refl, refl, refl, refl)
 
 carried_cases : (checks 0 (carried_checks (0b10011111 ∷ 2 ∷ 5 ∷ 0 ∷ [])) ≡ ends tt)
     × (checks 0 (carried_checks (0b00010011 ∷ 0 ∷ 0 ∷ 0 ∷ [])) ≡ stops RESERVED 444) × (checks 0 (carried_checks (0b00100011 ∷ 0 ∷ 0 ∷ 0 ∷ [])) ≡ stops RESERVED 444)
@@ -79,5 +80,6 @@ carried_cases : (checks 0 (carried_checks (0b10011111 ∷ 2 ∷ 5 ∷ 0 ∷ []))
     × (checks 0 (carried_checks (3 ∷ 0 ∷ 0 ∷ 4 ∷ [])) ≡ stops RESERVED 447)
     -- automatic GUID, then edit date, at one place
     × (checks 0 (carried_checks (3 ∷ 0 ∷ 0 ∷ 3 ∷ [])) ≡ meets 447 2017 (meets 447 2017 (ends tt)))
+    × (refusal_number RESERVED ≡ 7)
 unfolding carried_checks
-carried_cases = (refl, refl, refl, refl, refl, refl, refl)
+carried_cases = (refl, refl, refl, refl, refl, refl, refl, refl)

@@ -2,7 +2,7 @@
 -- The checks take their places, for the reader has three (the bytes) and the writer one (the reference number's index).
 use Rattle.std.specs.Prelude.{ℕ, Bool, not, ◌&&◌, ◌||◌, List, [], ◌∷◌, ◌++◌, ◌≡◌, refl, eqb, leb}
 use Rattle.layout.specs.Bytes.{bits, bit}
-use Rattle.layout.specs.Refusals.{RESERVED, NOT_CARRIED}
+use Rattle.layout.specs.Refusals.{RESERVED, NOT_CARRIED, refusal_number}
 use Rattle.layout.specs.Sheet.{Reference}
 use Rattle.layout.specs.Walk.{Walk, Check, must, dated, checks, ends, stops, meets}
 use Rattle.layout.specs.Years.{since, multipolygon, compressed_graphics, binding_vectors, unicode, above_all, below_all, vertical_alignment, spline_bits}
@@ -77,8 +77,11 @@ cases : (of 5 0 0 ≡ ends tt) × (of 6 0 0 ≡ stops RESERVED 20) × (of 32 0 0
     × (of 0 0 16 ≡ stops NOT_CARRIED 22) × (of 0 0 32 ≡ ends tt) × (of 0 0 64 ≡ meets 22 2004 (ends tt)) × (of 0 0 192 ≡ meets 22 2004 (ends tt))
     -- byte by byte, and in one byte RESERVED, TOO NEW, NOT CARRIED
     × (of 16 9 81 ≡ meets 20 2016 (meets 21 2015 (meets 21 2008 (stops NOT_CARRIED 21)))) × (of 0 0 81 ≡ stops RESERVED 22) × (of 0 0 80 ≡ meets 22 2004 (stops NOT_CARRIED 22))
+    × (refusal_number RESERVED ≡ 7) × (refusal_number NOT_CARRIED ≡ 9)
 unfolding reference_checks byte20 byte21 byte22
 cases = (
+  refl,
+  refl,
   refl,
   refl,
   refl,
