@@ -4,6 +4,8 @@ use Rattle.meanings.proofs.coordinates.coordinate_of.Kinds as coordinate-of-kind
 use Rattle.meanings.proofs.coordinates.coordinate_of.Reads as coordinate-of
 use Rattle.meanings.proofs.coordinates.measure_of.Kinds as measure-of-kinds
 use Rattle.meanings.proofs.coordinates.measure_of.Reads as measure-of
+use Rattle.meanings.proofs.coordinates.UnknownUnit.byte.Kinds as unknown-byte-kinds
+use Rattle.meanings.proofs.coordinates.UnknownUnit.byte.Reads as unknown-byte
 use Rattle.meanings.proofs.coordinates.Quantity.unit.Kinds as quantity-unit-kinds
 use Rattle.meanings.proofs.coordinates.Quantity.unit.Reads as quantity-unit
 use Rattle.meanings.proofs.coordinates.Quantity.number.Kinds as quantity-number-kinds
@@ -49,6 +51,9 @@ once_measure_of κs a x y e f p q = p ∙ sym q
 
 pub once_coordinate_of : Once coordinate-of-kinds.ps coordinate-of-kinds.r coordinate-of.Post
 once_coordinate_of κs a x y e f p q = p ∙ sym q
+
+pub once_unknown-byte : Once unknown-byte-kinds.ps unknown-byte-kinds.r unknown-byte.Post
+once_unknown-byte κs a x y e f p q = p ∙ sym q
 
 -- of each unit
 pub once_quantity_unit : (U : _) (l : _) (c : _) (g : _) (d : _)
