@@ -3,7 +3,7 @@
 // A place is counted through all lists, 512 for each, of which the first is for its count; the sheet is the last, and has 2048. So a place
 // or a count that goes past a list goes on into those behind it: `table @600` is a place of the elements, and `table #600` has their count
 // and their first values behind the table's 511. A line may say so, which is why a place is a number and not a list with an index in it.
-ghost use Rattle.std.specs.Prelude.{◌<◌};
+ghost use Rattle.std.specs.Prelude.{◌<◌, ◌≤◌, length};
 
 use crate::calls::Call;
 use crate::lists::List;
@@ -148,7 +148,9 @@ impl Form {
     }
 
     // So much of all places as the list says that it has.
-    fn part<'a, T>(&self, all: &'a [T], list: List) -> &'a [T] {
+    fn part<'a, T>(&self, all: &'a [T], list: List) -> &'a [T]
+        ensures { length result.now ≤ length all.now }
+    {
         let start = start_of(list);
         let count = self.places[start] as usize;
         let behind = all.get(start + 1..).unwrap_or(&[]);
