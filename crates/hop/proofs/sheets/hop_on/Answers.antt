@@ -23,7 +23,7 @@ returns-in_err-check_header c =
 
 pub header_at-h-requires : goal.header_at-h-requires
 header_at-h-requires c =
-    let fits = header-within c.args.s.now c.loop-seen.at c.check_header.result c.check_header.ensures c.in_ok-check_header.was in
+    let fits = header-within c.args.s.now c.loop-seen.at _ c.check_header.ensures c.in_ok-check_header.was in
     omega (arith, fits.0, fits.1)
 
 pub returns-then-h-code : goal.returns-then-h-code
