@@ -36,7 +36,7 @@ returns c =
     let accepted : (count : ℕ) × Read c.args.setting.year sheet count = (
       _,
       read _ sheet _ (all-bytes sheet (λ i. omega (arith, c.type_inv.s i)))
-          (seen _ _ _ _ c.check.ensures c.in_ok-sizes.was),
+          (seen _ _ _ c.check.result c.check.ensures c.in_ok-sizes.was),
     ) in
     let known = accepted.1 in
     let both = told_given (reading c.args.setting.year sheet) (λ (t : Sheet). encode_index New (entries_of start t.records)) c.args.index.now
