@@ -22,13 +22,14 @@ use words::BadLine;
 // How many bytes of input there are, with zeros after those that were read: a name that no blank follows has them too.
 const ROOM: usize = 65536;
 
-// What stands behind the = of the line that defines a letter. The first line defines none.
+// What stands behind the = of the line that defines a letter. The first line defines none. The = is asked for first: far more lines end than define
+// a letter, and a test that often holds would make the search slower.
 fn definition(text: &[u8], letter: u8) -> Option<&[u8]>
     ensures { IfSome result (λ d. length d.now ≤ length text.now) }
 {
-    let at = text
-        .windows(3)
-        .position(|w| matches!(w, [b'\n', of, b'='] if *of == letter))?;
+    let at = text.windows(3).position(
+        |w| matches!(w, [end, of, b'='] if *of == letter && *end == b'\n'),
+    )?;
     text.get(at + 3..)
 }
 
