@@ -16,7 +16,7 @@ use reading::sheets::check;
 use std::io::Read;
 use std::{fmt, io};
 
-// How many bytes a sheet may have. The buffer has room for these, and stands on the stack, so that memory cannot run out.
+// How many bytes a sheet may have. The buffer has room for these, and stands on the stack, so that no memory is asked for.
 const MOST: usize = 65536;
 
 // A refusal: its number, place and year.
